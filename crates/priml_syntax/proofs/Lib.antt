@@ -1,0 +1,5 @@
+pub mod Blocks
+pub mod Orders
+pub mod Sums
+pub mod Given
+pub mod Sorting

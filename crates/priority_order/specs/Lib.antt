@@ -1,0 +1,4 @@
+pub mod Order
+pub mod Edges
+pub mod Parts
+pub mod Fault

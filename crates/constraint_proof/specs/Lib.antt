@@ -1,0 +1,5 @@
+pub mod Entailed
+pub mod Numbers
+pub mod Facts
+pub mod Steps
+pub mod Search

@@ -1,0 +1,11 @@
+pub mod Unique
+pub mod Sites
+pub mod Steps
+pub mod Refutes
+pub mod Arguments
+pub mod Handed
+pub mod Programs
+pub mod Parts
+pub mod InScope
+pub mod Written
+pub mod OneFault

@@ -1,0 +1,10 @@
+pub mod Typing
+pub mod Nodes
+pub mod Faults
+pub mod Answers
+pub mod Helpers
+pub mod Calls
+pub mod Typable
+pub mod Stops
+pub mod Shared
+pub mod Jobs

@@ -1,0 +1,9 @@
+pub mod Digits
+pub mod Lawful
+pub mod Longest
+pub mod Numbered
+pub mod Once
+pub mod Signs
+pub mod Spelled
+pub mod Steps
+pub mod Worked

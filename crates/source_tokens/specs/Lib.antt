@@ -1,0 +1,6 @@
+pub mod Forms
+pub mod Laws
+pub mod Lexemes
+pub mod Lexer
+pub mod Lexes
+pub mod Names

@@ -1,0 +1,96 @@
+//! Bytes, and the runs of them that stand between tokens and in words and numbers.
+ghost use Rattle.std.specs.Prelude.{◌≡◌, ◌<◌, ◌≤◌, ◌^◌, length, IfSome, IfNone};
+ghost use Rattle.std.specs.List.{prefix_len};
+ghost use Rattle.source_tokens.specs.Lexemes.{is_separator, is_passed, keeps_comment, begins, is_digit, begins_word, is_part, value};
+
+fn is_separator(byte: u8) -> bool
+    ensures { result ≡ is_separator byte }
+{
+    byte == b' ' || byte == b'\t' || byte == b'\r' || byte == b'\n'
+}
+
+fn is_passed(in_comment: bool, byte: u8) -> bool
+    ensures { result ≡ is_passed in_comment byte }
+{
+    in_comment || is_separator(byte) || byte == b'#'
+}
+
+fn keeps_comment(in_comment: bool, byte: u8) -> bool
+    ensures { result ≡ keeps_comment in_comment byte }
+{
+    if in_comment {
+        byte != b'\n'
+    } else {
+        byte == b'#'
+    }
+}
+
+/// What is left of a text behind separators and comments.
+pub(crate) fn skip(text: &[u8]) -> &[u8]
+    ensures left { result.now ≡ begins text.now }
+    ensures shorter { length result.now ≤ length text.now }
+{
+    let mut in_comment = false;
+    let mut at = 0;
+    while at < text.len() && is_passed(in_comment, text[at]) {
+        in_comment = keeps_comment(in_comment, text[at]);
+        at += 1;
+    }
+    &text[at..]
+}
+
+pub(crate) fn is_digit(byte: u8) -> bool
+    ensures { result ≡ is_digit byte }
+{
+    byte.is_ascii_digit()
+}
+
+/// Whether a word may begin with this byte.
+pub(crate) fn begins_word(byte: u8) -> bool
+    ensures { result ≡ begins_word byte }
+{
+    byte.is_ascii_alphabetic() || byte == b'_'
+}
+
+fn is_part(byte: u8) -> bool
+    ensures { result ≡ is_part byte }
+{
+    begins_word(byte) || is_digit(byte)
+}
+
+/// How many bytes from the front may stand in a word.
+pub(crate) fn word_len(bytes: &[u8]) -> usize
+    ensures { result ≡ prefix_len is_part bytes.now }
+{
+    let mut len = 0;
+    while len < bytes.len() && is_part(bytes[len]) {
+        len += 1;
+    }
+    len
+}
+
+/// How many digits stand at the front.
+pub(crate) fn digits_len(bytes: &[u8]) -> usize
+    ensures { result ≡ prefix_len is_digit bytes.now }
+{
+    let mut len = 0;
+    while len < bytes.len() && is_digit(bytes[len]) {
+        len += 1;
+    }
+    len
+}
+
+/// The value of digits, if it is below two to the 63.
+pub(crate) fn number(digits: &[u8]) -> Option<u64>
+    ensures found { IfSome result (λ n. (n ≡ value digits.now) × (n < 2 ^ 63)) }
+    ensures none { IfNone result (2 ^ 63 ≤ value digits.now) }
+{
+    let mut n: u64 = 0;
+    for digit in digits {
+        if n >= 1 << 60 {
+            return None;
+        }
+        n = 10 * n + u64::from(digit.saturating_sub(b'0'));
+    }
+    if n < 1 << 63 { Some(n) } else { None }
+}

@@ -1,0 +1,125 @@
+//! Cuts a text into tokens.
+ghost use Rattle.std.specs.Prelude.{◌≡◌, ◌≤◌, ◌<◌, ℕ, List, length, IsTrue, IfOk, IfSome, IfNone, MatchOption};
+ghost use Rattle.source_tokens.specs.declared.token.Token.{Token};
+ghost use Rattle.source_tokens.specs.declared.token.Stop.{Stop};
+ghost use Rattle.source_tokens.specs.Lexes.{opens, closes, open_behind, IsLexed};
+ghost use Rattle.source_tokens.specs.Laws.{AreLawful};
+ghost use Rattle.source_tokens.specs.Names.{spellings};
+
+use crate::bytes::skip;
+use crate::form::lexeme;
+use crate::name::kind_of;
+use crate::token::{Kind, Sign, Stop, Token};
+use indexmap::IndexSet;
+use std::alloc::{AllocError, Global};
+
+/// The tokens of a text, its distinct names in the order of their first occurrence, and how it ends.
+#[derive(Drop)]
+pub struct Lexed {
+    pub tokens: Vec<Token>,
+    pub names: IndexSet<Vec<u8>>,
+    pub stop: Stop,
+}
+
+// The tokens so far of a text of `total` bytes, and the `rest` of it, before which `depth` brackets are open.
+#[derive(Drop)]
+struct Lexer<'a> {
+    total: usize,
+    rest: &'a [u8],
+    depth: usize,
+    tokens: Vec<Token>,
+    names: IndexSet<Vec<u8>>,
+    ghost within: { length rest.now ≤ total },
+}
+
+fn opens(kind: Kind) -> bool
+    ensures { result ≡ opens kind }
+{
+    matches!(
+        kind,
+        Kind::Sign(Sign::OpenParen | Sign::OpenBracket | Sign::OpenBrace)
+    )
+}
+
+fn closes(kind: Kind) -> bool
+    ensures { result ≡ closes kind }
+{
+    matches!(
+        kind,
+        Kind::Sign(Sign::CloseParen | Sign::CloseBracket | Sign::CloseBrace)
+    )
+}
+
+// How many brackets are open behind a token, or `None` where it opens one while 64 are open.
+fn open_behind(kind: Kind, depth: usize) -> Option<usize>
+    ensures some { IfSome result (λ d. d ≡ open_behind kind depth) }
+    ensures shallow { IfSome result (λ d. IsTrue (opens kind) → depth < 64) }
+    ensures none { IfNone result (IsTrue (opens kind) × (64 ≤ depth)) }
+{
+    if opens(kind) {
+        if depth < 64 { Some(depth + 1) } else { None }
+    } else if closes(kind) {
+        Some(depth.saturating_sub(1))
+    } else {
+        Some(depth)
+    }
+}
+
+impl<'a> Lexer<'a> {
+    ghost use Rattle.source_tokens.specs.Lexer.{Leads, Ends};
+
+    // Takes the next token, or answers how the text ends.
+    fn advance(&mut self, alloc: Global) -> Result<Option<Stop>, AllocError>
+        ensures leads { IfOk result (λ stop. (text : List ℕ) → Leads text self.old → MatchOption stop (Leads text self.new) (λ end. Ends text self.new end)) }
+        ensures shorter { IfOk result (λ stop. IfNone stop (length self.new.rest.now < length self.old.rest.now)) }
+    {
+        let rest = skip(self.rest);
+        let at = (self.total - rest.len()) as u64;
+        let Some((form, len)) = lexeme(rest) else {
+            return Ok(Some(if rest.is_empty() {
+                Stop::Done
+            } else {
+                Stop::BadByte(at)
+            }));
+        };
+        let (lexeme, rest) = rest.split_at(len);
+        let Some(kind) = kind_of(alloc, &mut self.names, form, lexeme)? else {
+            return Ok(Some(Stop::BadNumber(at)));
+        };
+        self.tokens.push(Token { at, kind })?;
+        let Some(depth) = open_behind(kind, self.depth) else {
+            return Ok(Some(Stop::TooDeep(at)));
+        };
+        self.depth = depth;
+        self.rest = rest;
+        Ok(None)
+    }
+}
+
+/// Cuts a text into tokens, up to its end or its first fault. The names are distinct. A refusal is want of memory.
+pub fn lex(alloc: Global, text: &[u8]) -> Result<Lexed, AllocError>
+    ensures cut { IfOk result (λ l. IsLexed text.now l.tokens.items (spellings l) l.stop) }
+    ensures only { IfOk result (λ l. (ts : List Token) (ns : List (List ℕ)) (end : Stop) → IsLexed text.now ts ns end
+        → (ts ≡ l.tokens.items) × (ns ≡ spellings l) × (end ≡ l.stop)) }
+    ensures lawful { IfOk result (λ l. AreLawful (length text.now) l.tokens.items (spellings l) l.stop) }
+{
+    // Most texts have fewer tokens than half their bytes, so these are seldom moved.
+    let tokens = Vec::with_capacity(alloc, text.len() / 2)?;
+    let mut lexer = Lexer {
+        total: text.len(),
+        rest: text,
+        depth: 0,
+        tokens,
+        names: IndexSet::new(alloc),
+    };
+    loop {
+        if let Some(stop) = lexer.advance(alloc)? {
+            let Lexer { tokens, names, .. } = lexer;
+            return Ok(Lexed {
+                tokens,
+                names,
+                stop,
+            });
+        }
+    }
+}

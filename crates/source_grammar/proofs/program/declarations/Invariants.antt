@@ -1,0 +1,13 @@
+use Rattle.std.proofs.Common.{◌≡◌, ◌∷◌, length, List}
+use Rattle.source_grammar.specs.Grammar.{IsDecls}
+use Rattle.source_grammar.specs.Machine.{Symbol, halt, Program}
+use Rattle.source_grammar.proofs.program.declarations.Given as goal
+
+abbrev pub invariant-declarations : goal.invariant-declarations
+invariant-declarations l = record {
+  made : IsDecls l.fn.tokens l.tokens l.declarations.items;
+  moved : (xs : List Symbol) → halt (Program ∷ xs) l.fn.tokens ≡ halt (Program ∷ xs) l.tokens;
+}
+
+abbrev pub decreases-declarations : goal.decreases-declarations
+decreases-declarations l = length l.tokens

@@ -1,0 +1,145 @@
+//! Blocks and actions.
+
+ghost use Rattle.std.specs.Prelude.{◌≡◌, ◌++◌, OnOk, ◌∷◌, [], IfOk, ◌≤◌, ◌<◌, length};
+ghost use Rattle.source_tokens.specs.declared.token.Sign.TheVariants as sign;
+ghost use Rattle.source_grammar.specs.Grammar.{IsAction, IsBlock, IsBody};
+ghost use Rattle.source_grammar.specs.Lists.{body_of};
+ghost use Rattle.source_grammar.specs.Machine.{ASign, Action, Bind, Binds, Block, Returned, Spawn, Sync, Tail};
+ghost use Rattle.source_grammar.specs.RawRead.{read_action, read_block, read_tail};
+ghost use Rattle.source_grammar.specs.RawTree.{RawBody};
+ghost use Rattle.source_grammar.specs.Stops.{Moves, MovesTo};
+
+use crate::cursor::{ActionForm, Stop, Tokens};
+use crate::expr::expr;
+use crate::raw::{RawAction, RawBind, RawBlock, RawTail, RawTailForm};
+use source_tokens::token::{Sign, Word};
+use std::alloc::{AllocError, Global};
+
+/// A block in braces.
+#[cycle(block)]
+#[tactic(auto, using(crate::proofs::Steps::steps, crate::proofs::Forms::forms))]
+pub fn block(alloc: Global, tokens: &mut Tokens) -> Result<RawBlock, Stop>
+    ensures ok { IfOk result (λ b. IsBlock tokens.old tokens.new (read_block b)) }
+    ensures moves { Moves Block tokens.old tokens.new result }
+    ensures shorter { IfOk result (λ _. length tokens.new < length tokens.old) }
+{
+    let at = tokens.expect_sign(Sign::OpenBrace)?;
+    let binds = binds(alloc, tokens)?;
+    let tail = tail(tokens)?;
+    tokens.expect_sign(Sign::CloseBrace)?;
+    Ok(RawBlock { at, binds, tail })
+}
+
+/// The bound actions of a block, as far as names come.
+#[cycle(block)]
+#[tactic(auto, using(crate::proofs::Steps::steps, crate::proofs::Forms::forms))]
+fn binds(alloc: Global, tokens: &mut Tokens) -> Result<Vec<RawBind>, Stop>
+    ensures ok { IfOk result
+        (λ bs. (rest : _) (body : RawBody) → IsBody tokens.new rest body → IsBody tokens.old rest (body_of bs.items body)) }
+    ensures moves { MovesTo Binds (Tail ∷ ASign sign.CloseBrace ∷ []) tokens.old tokens.new result }
+    ensures shorter { IfOk result (λ _. length tokens.new ≤ length tokens.old) }
+{
+    let mut binds = Vec::new(alloc);
+    'binds: while tokens.is_at_name() {
+        let bind = bind(alloc, tokens)?;
+        push(&mut binds, bind)?;
+    }
+    Ok(binds)
+}
+
+/// A bound action, which begins with a name.
+#[cycle(block)]
+#[tactic(auto, using(crate::proofs::Steps::steps, crate::proofs::Forms::forms))]
+fn bind(alloc: Global, tokens: &mut Tokens) -> Result<RawBind, Stop>
+    ensures ok { IfOk result
+        (λ b. (rest : _) (body : RawBody) → IsBody tokens.new rest body → IsBody tokens.old rest (body_of (b ∷ []) body)) }
+    ensures moves { Moves Bind tokens.old tokens.new result }
+    ensures shorter { IfOk result (λ _. length tokens.new < length tokens.old) }
+{
+    let name = tokens.name()?;
+    tokens.expect_sign(Sign::Arrow)?;
+    let (at, action) = action(alloc, tokens)?;
+    tokens.expect_sign(Sign::Semicolon)?;
+    Ok(RawBind { name, at, action })
+}
+
+/// An action, with the offset of its word.
+#[cycle(block)]
+#[tactic(auto, using(crate::proofs::Steps::choices))]
+fn action(alloc: Global, tokens: &mut Tokens) -> Result<(u64, RawAction), Stop>
+    ensures ok { IfOk result (λ a. IsAction tokens.old tokens.new a.0 (read_action a.1)) }
+    ensures moves { Moves Action tokens.old tokens.new result }
+    ensures shorter { IfOk result (λ _. length tokens.new < length tokens.old) }
+{
+    match tokens.action_form() {
+        Some(ActionForm::Returned) => returned(tokens),
+        Some(ActionForm::Spawn) => spawn(alloc, tokens),
+        Some(ActionForm::Sync) => sync(tokens),
+        None => Err(Stop::Syntax),
+    }
+}
+
+#[tactic(auto, using(crate::proofs::Steps::steps, crate::proofs::Forms::forms))]
+fn returned(tokens: &mut Tokens) -> Result<(u64, RawAction), Stop>
+    ensures ok { IfOk result (λ a. IsAction tokens.old tokens.new a.0 (read_action a.1)) }
+    ensures moves { Moves Returned tokens.old tokens.new result }
+    ensures shorter { IfOk result (λ _. length tokens.new < length tokens.old) }
+{
+    let at = tokens.expect_word(Word::Ret)?;
+    let value = expr(tokens)?;
+    Ok((at, RawAction::Ret(value)))
+}
+
+#[cycle(block)]
+#[tactic(auto, using(crate::proofs::Steps::steps, crate::proofs::Forms::forms))]
+fn spawn(alloc: Global, tokens: &mut Tokens) -> Result<(u64, RawAction), Stop>
+    ensures ok { IfOk result (λ a. IsAction tokens.old tokens.new a.0 (read_action a.1)) }
+    ensures moves { Moves Spawn tokens.old tokens.new result }
+    ensures shorter { IfOk result (λ _. length tokens.new < length tokens.old) }
+{
+    let at = tokens.expect_word(Word::Spawn)?;
+    tokens.expect_sign(Sign::OpenBracket)?;
+    let priority = tokens.name()?;
+    tokens.expect_sign(Sign::CloseBracket)?;
+    let body = block(alloc, tokens)?;
+    Ok((at, RawAction::Spawn(priority, boxed(alloc, body)?)))
+}
+
+#[tactic(auto, using(crate::proofs::Steps::steps, crate::proofs::Forms::forms))]
+fn sync(tokens: &mut Tokens) -> Result<(u64, RawAction), Stop>
+    ensures ok { IfOk result (λ a. IsAction tokens.old tokens.new a.0 (read_action a.1)) }
+    ensures moves { Moves Sync tokens.old tokens.new result }
+    ensures shorter { IfOk result (λ _. length tokens.new < length tokens.old) }
+{
+    let at = tokens.expect_word(Word::Sync)?;
+    let thread = tokens.name()?;
+    Ok((at, RawAction::Sync(thread)))
+}
+
+/// What ends a block.
+#[tactic(auto, using(crate::proofs::Steps::steps, crate::proofs::Forms::forms))]
+fn tail(tokens: &mut Tokens) -> Result<RawTail, Stop>
+    ensures ok { IfOk result (λ t. IsBody tokens.old tokens.new (read_tail t.form t.at)) }
+    ensures moves { Moves Tail tokens.old tokens.new result }
+    ensures shorter { IfOk result (λ _. length tokens.new < length tokens.old) }
+{
+    let at = tokens.expect_word(Word::Ret)?;
+    let value = expr(tokens)?;
+    Ok(RawTail {
+        at,
+        form: RawTailForm::Ret(value),
+    })
+}
+
+fn boxed(alloc: Global, body: RawBlock) -> Result<Box<RawBlock>, AllocError>
+    ensures { IfOk result (λ b. read_block b.value ≡ read_block body) }
+{
+    Ok(Box::new(alloc, body)?)
+}
+
+fn push(binds: &mut Vec<RawBind>, bind: RawBind) -> Result<(), AllocError>
+    ensures { OnOk result (binds.new.items ≡ binds.old.items ++ bind ∷ []) }
+{
+    binds.push(bind)?;
+    Ok(())
+}

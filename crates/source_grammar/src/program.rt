@@ -1,0 +1,131 @@
+//! Declarations, the main procedure and the program.
+
+ghost use Rattle.std.specs.Prelude.{◌≡◌, ◌++◌, OnOk, ◌∷◌, [], IfOk, IfErr, ◌≤◌, ◌<◌, length};
+ghost use Rattle.source_grammar.specs.Faults.{Refuses, StopsAt};
+ghost use Rattle.source_grammar.specs.Grammar.{IsDecls, IsMain, IsProgram};
+ghost use Rattle.source_grammar.specs.Machine.{Main, Order, Priority, Program};
+ghost use Rattle.source_grammar.specs.Next.{declaration_symbol};
+ghost use Rattle.source_grammar.specs.RawRead.{read_main, read_raw};
+ghost use Rattle.source_grammar.specs.RawTree.{RawTree};
+ghost use Rattle.source_grammar.specs.Stops.{Moves, MovesAll, MovesTo};
+
+use crate::block::block;
+use crate::cursor::{DeclarationForm, Stop, Tokens};
+use crate::expr::written;
+use crate::raw::{RawDecl, RawMain, RawProgram};
+use source_tokens::token::{Sign, Token, Word};
+use std::alloc::{AllocError, Global};
+
+/// Why tokens stand for no program.
+#[derive(Clone, Copy, Debug, PartialEq, Eq)]
+pub enum ParseStop {
+    /// The token at this index, or the end where it is the number of tokens, is the first with which the text leaves
+    /// the grammar.
+    Unexpected(usize),
+    /// The tree does not fit in memory.
+    OutOfMemory,
+}
+
+/// The tree of a text's tokens. It is the only one.
+pub fn parse(alloc: Global, tokens: &[Token]) -> Result<RawProgram, ParseStop>
+    ensures program { IfOk result (λ p. IsProgram tokens.now (read_raw p)) }
+    ensures only { IfOk result (λ p. (q : RawTree) → IsProgram tokens.now q → q ≡ read_raw p) }
+    ensures none { IfErr result (Refuses tokens.now) }
+    ensures unexpected { IfErr result (StopsAt tokens.now) }
+{
+    let mut rest = Tokens::new(tokens);
+    match program(alloc, &mut rest) {
+        Ok(program) => Ok(program),
+        Err(Stop::Syntax) => Err(ParseStop::Unexpected(tokens.len() - rest.len())),
+        Err(Stop::Memory) => Err(ParseStop::OutOfMemory),
+    }
+}
+
+/// A program, and then no token more.
+#[tactic(auto, using(crate::proofs::Steps::steps, crate::proofs::Forms::forms))]
+fn program(alloc: Global, tokens: &mut Tokens) -> Result<RawProgram, Stop>
+    ensures ok { IfOk result (λ p. IsProgram tokens.old (read_raw p)) }
+    ensures moves { MovesAll (Program ∷ []) tokens.old tokens.new result }
+{
+    let decls = declarations(alloc, tokens)?;
+    let main = main(alloc, tokens)?;
+    tokens.expect_end()?;
+    Ok(RawProgram { decls, main })
+}
+
+/// The declarations, as far as they come.
+#[tactic(auto, using(crate::proofs::Steps::steps, crate::proofs::Forms::forms))]
+fn declarations(alloc: Global, tokens: &mut Tokens) -> Result<Vec<RawDecl>, Stop>
+    ensures ok { IfOk result (λ ds. IsDecls tokens.old tokens.new ds.items) }
+    ensures moves { MovesTo Program (Main ∷ []) tokens.old tokens.new result }
+{
+    let mut declarations = Vec::new(alloc);
+    'declarations: while let Some(form) = tokens.declaration_form() {
+        let declaration = declaration(form, tokens)?;
+        push(&mut declarations, declaration)?;
+    }
+    Ok(declarations)
+}
+
+fn declaration(form: DeclarationForm, tokens: &mut Tokens) -> Result<RawDecl, Stop>
+    ensures ok { IfOk result (λ d. IsDecls tokens.old tokens.new (d ∷ [])) }
+    ensures moves { Moves (declaration_symbol form) tokens.old tokens.new result }
+    ensures shorter { IfOk result (λ _. length tokens.new < length tokens.old) }
+{
+    match form {
+        DeclarationForm::Priority => priority(tokens),
+        DeclarationForm::Order => order(tokens),
+    }
+}
+
+#[tactic(auto, using(crate::proofs::Steps::steps, crate::proofs::Forms::forms))]
+fn priority(tokens: &mut Tokens) -> Result<RawDecl, Stop>
+    ensures ok { IfOk result (λ d. IsDecls tokens.old tokens.new (d ∷ [])) }
+    ensures moves { Moves Priority tokens.old tokens.new result }
+    ensures shorter { IfOk result (λ _. length tokens.new < length tokens.old) }
+{
+    tokens.expect_word(Word::Priority)?;
+    let name = tokens.name()?;
+    tokens.expect_sign(Sign::Semicolon)?;
+    Ok(RawDecl::Priority(name))
+}
+
+#[tactic(auto, using(crate::proofs::Steps::steps, crate::proofs::Forms::forms))]
+fn order(tokens: &mut Tokens) -> Result<RawDecl, Stop>
+    ensures ok { IfOk result (λ d. IsDecls tokens.old tokens.new (d ∷ [])) }
+    ensures moves { Moves Order tokens.old tokens.new result }
+    ensures shorter { IfOk result (λ _. length tokens.new < length tokens.old) }
+{
+    let at = tokens.expect_word(Word::Order)?;
+    let lower = tokens.name()?;
+    tokens.expect_sign(Sign::Less)?;
+    let upper = tokens.name()?;
+    tokens.expect_sign(Sign::Semicolon)?;
+    Ok(RawDecl::Order(at, lower, upper))
+}
+
+#[tactic(auto, using(crate::proofs::Steps::steps, crate::proofs::Forms::forms))]
+fn main(alloc: Global, tokens: &mut Tokens) -> Result<RawMain, Stop>
+    ensures ok { IfOk result (λ m. IsMain tokens.old tokens.new (read_main m)) }
+    ensures moves { Moves Main tokens.old tokens.new result }
+{
+    let at = tokens.expect_word(Word::Main)?;
+    tokens.expect_word(Word::At)?;
+    let own = tokens.name()?;
+    tokens.expect_sign(Sign::Colon)?;
+    let result = written(tokens)?;
+    let body = block(alloc, tokens)?;
+    Ok(RawMain {
+        at,
+        own,
+        result,
+        body,
+    })
+}
+
+fn push(declarations: &mut Vec<RawDecl>, declaration: RawDecl) -> Result<(), AllocError>
+    ensures { OnOk result (declarations.new.items ≡ declarations.old.items ++ declaration ∷ []) }
+{
+    declarations.push(declaration)?;
+    Ok(())
+}

@@ -3,10 +3,16 @@
 
 mod ends;
 mod memory;
+mod sections;
 mod standard;
+mod steady;
 mod whole;
+mod words;
 
 pub use ends::{Failed, Sink, Source};
 pub use memory::{MemSink, MemSource};
+pub use sections::{SectionFault, Sections, split};
 pub use standard::{StdSink, StdSource};
+pub use steady::{SteadySink, SteadySource};
 pub use whole::{ReadStop, WriteStop, read_all, write_all};
+pub use words::{Command, WordsFault, read_words};

@@ -1,0 +1,141 @@
+-- What the search for the next section keeps, line by line.
+use Rattle.std.proofs.Common.{drop, get_or, Option, None, Some, is_some, IsSome, Bool, true, false, ◌≡◌, ◌≢◌, ℕ, ◌+◌, ◌-◌, ◌<◌, ◌≤◌, List, [], ◌∷◌, ◌++◌, length, take, All, refl, sym, ap, ◌∙◌, arith, append_assoc, append-nil, length-append, inl, inr, ◌⊎◌}
+use Rattle.std.proofs.Math.Seq.{take-append_seam, drop-append_seam}
+use Rattle.std.proofs.lemmas.List.{take-append-drop, take_all}
+use Rattle.std.proofs.Common.{drop-cons, add-one, length-drop, MatchBool, ◌==◌}
+use Rattle.std.specs.Borrow.{Bor}
+use Rattle.std.proofs.lemmas.Bool.Decides.{nat_tests}
+use Rattle.std.proofs.lemmas.Grind.{common_steps}
+use Rattle.std.proofs.lemmas.List.Elements.{All-append, All-cons, All-nil}
+use Rattle.priml_io.specs.Lines.{lines}
+use Rattle.priml_io.specs.Sections.{IsMarked, IsRow, IsWhole, IsPart, IsHeading, IsSection, IsBlank, IsPadded, bytes_of, Gathers, none, inputs, schedule}
+use Rattle.priml_io.proofs.LinesLemmas.{lines-append, lines-row}
+
+-- what was passed of the text, line by line: no line of it is marked
+pub record Passed (text rest : List ℕ) (count : ℕ) : Type 0 where
+  pub front : List ℕ
+  pub is : text ≡ front ++ rest
+  pub count_is : count ≡ length (lines front)
+  pub few : count ≤ length front
+  pub plain : All (λ line. ¬ IsMarked line) (lines front)
+  pub whole : (rest ≡ []) ⊎ IsWhole front
+
+pub passed-none : (text : List ℕ) → Passed text text 0
+passed-none text = record { front = []; is = refl; count_is = refl; few = omega arith; plain = All-nil (λ line. ¬ IsMarked line); whole = inr (inl refl) }
+
+marked-append : (line more : List ℕ) → IsMarked line → IsMarked (line ++ more)
+marked-append [] more m = absurd (omega (arith, ap length m))
+marked-append (a ∷ []) more m = absurd (omega (arith, ap length m))
+marked-append (a ∷ b ∷ []) more m = absurd (omega (arith, ap length m))
+marked-append (a ∷ b ∷ c ∷ line) more m = m
+
+row-append : (line after bytes : List ℕ) → IsRow bytes line after → (more : List ℕ) × (bytes ++ after ≡ line ++ more)
+row-append line after bytes row = go row.ended where
+  go : (bytes ≡ line ++ 10 ∷ []) ⊎ ((bytes ≡ line) × (after ≡ [])) → (more : List ℕ) × (bytes ++ after ≡ line ++ more)
+  go (inl e) = (10 ∷ after, rw e (append_assoc line (10 ∷ []) after))
+  go (inr q) = (after, rw q.0 refl)
+
+-- the first line of a text that is not marked is not
+plain-row : (line after bytes : List ℕ) → IsRow bytes line after → ¬ IsMarked (bytes ++ after) → ¬ IsMarked line
+plain-row line after bytes row n m =
+    let r = row-append line after bytes row in
+    n (rw r.1 (marked-append line r.0 m))
+
+whole-row : (front line after bytes : List ℕ) → IsRow bytes line after → (after ≡ []) ⊎ IsWhole (front ++ bytes)
+whole-row front line after bytes row = go row.ended where
+  go : (bytes ≡ line ++ 10 ∷ []) ⊎ ((bytes ≡ line) × (after ≡ [])) → (after ≡ []) ⊎ IsWhole (front ++ bytes)
+  go (inl e) = inr (inr (front ++ line, rw e (sym (append_assoc front line (10 ∷ [])))))
+  go (inr q) = inl q.1
+
+whole-some : (rest front : List ℕ) → 0 < length rest → (rest ≡ []) ⊎ IsWhole front → IsWhole front
+whole-some rest front some (inl e) = absurd (omega (arith, ap length e))
+whole-some rest front some (inr w) = w
+
+-- one line more
+pub passed-more : (text rest after line bytes : List ℕ) (count : ℕ) → Passed text rest count → 0 < length rest → ¬ IsMarked rest → rest ≡ bytes ++ after → length after < length rest → IsRow bytes line after → Passed text after (count + 1)
+passed-more text rest after line bytes count p some unmarked e shorter row =
+    let long : 0 < length bytes = omega (arith, ap length e, length-append bytes after) in
+    let whole = whole-some rest p.front some p.whole in
+    let is = lines-append p.front bytes whole ∙ ap (λ v. lines p.front ++ v) (lines-row bytes line after row long) in
+    let not = plain-row line after bytes row (rw e at unmarked) in
+    record {
+      front = p.front ++ bytes;
+      is = p.is ∙ ap (λ v. p.front ++ v) e ∙ sym (append_assoc p.front bytes after);
+      count_is = rw is (omega (arith, length-append (lines p.front) (line ∷ []), p.count_is));
+      few = omega (arith, length-append p.front bytes, p.few);
+      plain = rw is (All-append (λ v. ¬ IsMarked v) (lines p.front) (line ∷ []) p.plain (All-cons (λ v. ¬ IsMarked v) line [] not (All-nil (λ v. ¬ IsMarked v))));
+      whole = whole-row p.front line after bytes row;
+    }
+
+-- at the end of the text or at a marked line, what was passed is a part
+pub passed-part : (text rest : List ℕ) (count : ℕ) → Passed text rest count → (rest ≡ []) ⊎ IsMarked rest → IsPart (take (length text - length rest) text) rest × (text ≡ take (length text - length rest) text ++ rest) × (count ≡ length (lines (take (length text - length rest) text))) × (count ≤ length (take (length text - length rest) text))
+passed-part text rest count p stop =
+    let n : length text - length rest ≡ length p.front = omega (arith, ap length p.is, length-append p.front rest) in
+    let e : take (length text - length rest) text ≡ p.front = rw (n, p.is) (take-append_seam p.front rest) in
+    rw e (record { plain = p.plain; ended = ended stop p.whole }, p.is, p.count_is, p.few) where
+      ended : (rest ≡ []) ⊎ IsMarked rest → (rest ≡ []) ⊎ IsWhole p.front → (rest ≡ []) ⊎ (IsWhole p.front × IsMarked rest)
+      ended (inl e) w = inl e
+      ended (inr m) (inl e) = inl e
+      ended (inr m) (inr w) = inr (w, m)
+
+-- a line that a line feed ends
+pub row-inner : (text rest : List ℕ) (n : ℕ) → n < length text → get_or text n 0 ≡ 10 → All (λ b. b ≢ 10) (take n text) → rest ≡ drop (n + 1) text → (bytes : List ℕ) × IsRow bytes (take n text) rest × (text ≡ bytes ++ rest)
+row-inner text rest n within feed plain e =
+    let split : drop n text ≡ 10 ∷ drop (n + 1) text = rw (drop-cons text n 0, feed, add-one) refl in (
+      take n text ++ 10 ∷ [],
+      record { plain = plain; ended = inl refl },
+      sym (take-append-drop n text) ∙ ap (λ v. take n text ++ v) split ∙ sym (append_assoc (take n text) (10 ∷ []) (drop (n + 1) text)) ∙ ap (λ v. (take n text ++ 10 ∷ []) ++ v) (sym e),
+    )
+
+-- a line that the text ends
+pub row-last : (text rest : List ℕ) (n : ℕ) → n ≡ length text → All (λ b. b ≢ 10) (take n text) → rest ≡ [] → (bytes : List ℕ) × IsRow bytes text rest × (text ≡ bytes ++ rest)
+row-last text rest n e plain z =
+    let all : take n text ≡ text = take_all n text (omega (arith, e)) in
+    (text, record { plain = rw all at plain; ended = inr (refl, z) }, sym (append-nil text) ∙ ap (λ v. text ++ v) (sym z))
+
+ended-only : (part after : List ℕ) → (after ≡ []) ⊎ (IsWhole part × IsMarked after) → (after ≡ []) ⊎ IsMarked after
+ended-only part after (inl e) = inl e
+ended-only part after (inr w) = inr w.1
+
+gathers-end : (input program : List ℕ) (i s : Option (List ℕ)) (n : ℕ) (after : List ℕ) → Gathers input program i s n after → (after ≡ []) ⊎ IsMarked after
+gathers-end input program _ _ _ _ (none n after is part e) = ended-only program after part.ended
+gathers-end input program _ _ _ _ (inputs m n text body after g section e) = ended-only body after section.part.ended
+gathers-end input program _ _ _ _ (schedule m n text body after g section e) = ended-only body after section.part.ended
+
+-- where something is left, it begins with a section
+pub gathers-marked : (input program : List ℕ) (i s : Option (List ℕ)) (n : ℕ) (after : List ℕ) → Gathers input program i s n after → 0 < length after → IsMarked after
+gathers-marked input program i s n after g some = go (gathers-end input program i s n after g) where
+  go : (after ≡ []) ⊎ IsMarked after → IsMarked after
+  go (inl e) = absurd (omega (arith, ap length e))
+  go (inr m) = m
+
+pub section-of : (name text line tail body after bytes : List ℕ) → IsRow bytes line tail → text ≡ bytes ++ tail → tail ≡ body ++ after → IsHeading name line → IsPart body after → IsSection name text body after
+section-of name text line tail body after bytes row is whole heading part =
+    record { bytes = bytes; line = line; is = is ∙ ap (λ v. bytes ++ v) whole; row = rw whole at row; heading = heading; part = part }
+
+pub bytes_of-none : (o : Option (Bor (List ℕ))) → false ≡ is_some o → bytes_of o ≡ None
+bytes_of-none None e = refl
+bytes_of-none (Some x) e = let k : false ≡ true = e in absurd cc
+
+pub bytes_of-some : (o : Option (Bor (List ℕ))) → true ≡ is_some o → IsSome (bytes_of o)
+bytes_of-some None e = let k : true ≡ false = e in absurd cc
+bytes_of-some (Some x) e = refl
+
+pub some-from_test : (n : ℕ) → false ≡ (n == 0) → 0 < n
+some-from_test n e = grind (arith, nat_tests)
+
+-- the slice of a list from n on
+pub rest-is : (text : List ℕ) (n : ℕ) → take (length text - n) (drop n text) ≡ drop n text
+rest-is text n = take_all (length text - n) (drop n text) (omega (arith, length-drop n text))
+
+pub rest-none : (text : List ℕ) (n : ℕ) → n ≡ length text → take (length text - n) (drop n text) ≡ []
+rest-none text n e = grind (arith, common_steps)
+
+-- a line that begins with a start is padded where what follows is blank, and not else
+pub padded : (start line : List ℕ) (r : Bool) → take (length start) line ≡ start → MatchBool r (All IsBlank (drop (length start) line)) (¬ All IsBlank (drop (length start) line)) → MatchBool r (IsPadded start line) (¬ IsPadded start line)
+padded start line true e blank = (drop (length start) line, sym (take-append-drop (length start) line) ∙ ap (λ v. v ++ drop (length start) line) e, blank)
+padded start line false e n =
+    λ p. n (rw (p.1, drop-append_seam start p.0) p.2)
+
+pub unpadded : (start line : List ℕ) → ¬ (take (length start) line ≡ start) → ¬ IsPadded start line
+unpadded start line n p = n (rw (p.1, take-append_seam start p.0) refl)

@@ -140,6 +140,10 @@ fn boxed(alloc: Global, body: RawBlock) -> Result<Box<RawBlock>, AllocError>
 fn push(binds: &mut Vec<RawBind>, bind: RawBind) -> Result<(), AllocError>
     ensures { OnOk result (binds.new.items ≡ binds.old.items ++ bind ∷ []) }
 {
+    // most blocks have one action or none, so the first takes no more room than its own
+    if binds.is_empty() {
+        binds.reserve_exact(1)?;
+    }
     binds.push(bind)?;
     Ok(())
 }

@@ -1,0 +1,12 @@
+pub mod Members
+pub mod Grown
+pub mod Ranges
+pub mod Threads
+pub mod Visits
+pub mod ReadyNext
+pub mod Falls
+pub mod Cycles
+pub mod Sorting
+pub mod Walks
+pub mod Above
+pub mod Ends

@@ -1,0 +1,12 @@
+use Rattle.std.proofs.Common.{◌≡◌, ◌++◌, drop}
+use Rattle.cost_graph.specs.Marks.{IsSeen}
+use Rattle.cost_graph.specs.Marks.{marks_after, freed_by}
+use Rattle.cost_graph.proofs.marks.run_step.Given as goal
+
+abbrev pub invariant-loop-vertex : goal.invariant-loop-vertex
+invariant-loop-vertex l =
+    record {
+      watched : IsSeen l.graph l.marks.items l.seen.items;
+      marked : marks_after l.marks.items (drop l.vertex-index l.step.items) ≡ marks_after l.fn.marks.items l.step.items;
+      freed : l.freed.items ++ freed_by l.graph l.marks.items (drop l.vertex-index l.step.items) ≡ freed_by l.graph l.fn.marks.items l.step.items;
+    }

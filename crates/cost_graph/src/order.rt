@@ -1,0 +1,45 @@
+ghost use Rattle.std.specs.Prelude.{◌≡◌, ℕ, ◌<◌, ◌⊎◌, ◌++◌, length, get_or, OnOk, IfOk, true, set, slice_set, slice_index};
+ghost use Rattle.std.specs.List.{filter};
+ghost use Rattle.cost_graph.specs.Graph.{vertex_total, children_at, Edge};
+ghost use Rattle.cost_graph.specs.Marks.{IsSeen, is_free};
+ghost use Rattle.cost_graph.specs.Order.{IsTopological, IsCyclic};
+
+use crate::graph::Graph;
+use crate::marks::{sources, visit};
+use std::alloc::{AllocError, Global};
+
+// Marks the vertex at a place of the order, and adds those that it frees at the end.
+fn pass(
+    graph: &Graph,
+    marks: &mut Vec<bool>,
+    seen: &mut Vec<usize>,
+    order: &mut Vec<u32>,
+    place: usize,
+) -> Result<(), AllocError>
+    requires place_in { place < length order.old.items }
+    requires vertex_in { slice_index order.old.items place < vertex_total graph.now }
+    requires watched { IsSeen graph.now marks.old.items seen.old.items }
+    ensures watched { IsSeen graph.now marks.new.items seen.new.items }
+    ensures marked { marks.new.items ≡ slice_set marks.old.items (slice_index order.old.items place) true }
+    ensures order { OnOk result (order.new.items ≡ order.old.items ++ filter (is_free graph.now marks.new.items) (children_at graph.now (slice_index order.old.items place))) }
+{
+    let vertex = order[place];
+    visit(graph, marks, seen, vertex, order)
+}
+
+/// The vertices in an order in which each stands after its parents; in a graph with a cycle, as far as the cycles
+/// let them.
+pub fn topological(alloc: Global, graph: &Graph) -> Result<Vec<u32>, AllocError>
+    ensures { IfOk result (λ order. IsTopological graph.now order.items ⊎ IsCyclic (Edge graph.now)) }
+{
+    let count = graph.vertex_count() as usize;
+    let mut marks = vec![in alloc; false; count]?;
+    let mut seen = vec![in alloc; 0usize; count]?;
+    let mut order = sources(alloc, graph)?;
+    let mut place = 0;
+    'places: while place < order.len() {
+        pass(graph, &mut marks, &mut seen, &mut order, place)?;
+        place += 1;
+    }
+    Ok(order)
+}

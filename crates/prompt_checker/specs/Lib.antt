@@ -1,0 +1,4 @@
+pub mod Schedule
+pub mod Plan
+pub mod Verdict
+pub mod Read

@@ -1,0 +1,5 @@
+pub mod Turns
+pub mod Keys
+pub mod Going
+pub mod Prompt
+pub mod Unique

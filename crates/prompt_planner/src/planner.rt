@@ -1,0 +1,76 @@
+ghost use Rattle.std.specs.Prelude.{◌≡◌, ℕ, ◌<◌, ◌≤◌, ◌↔◌, ◌⊎◌, length, List, map, take, drop, OnOk, IfOk, slice_index};
+ghost use Rattle.std.specs.List.{All, Contains};
+ghost use Rattle.cost_graph.specs.Graph.{vertex_total, IsAcyclic, IsVertexBelow};
+ghost use Rattle.prompt_checker.specs.Plan.{IsPlan};
+ghost use Rattle.prompt_checker.specs.Schedule.{IsPrompt};
+ghost use Rattle.prompt_checker.specs.Read.{steps_of};
+ghost use Rattle.prompt_planner.specs.Lanes.{LanesFit};
+
+use cost_graph::{Graph, run_step, sources};
+use prompt_checker::Schedule;
+use std::alloc::{AllocError, Global};
+use std::collections::BTreeSet;
+
+// Takes up to `cores` of the first keys out of the set, and answers their vertices.
+fn take_first(
+    alloc: Global,
+    ready: &mut BTreeSet<(u32, u32)>,
+    cores: u32,
+) -> Result<Vec<u32>, AllocError>
+    ensures taken { IfOk result (λ step. step.items ≡ map (λ k. k.1) (take cores ready.old.keys)) }
+    ensures left { OnOk result (ready.new.keys ≡ drop cores ready.old.keys) }
+{
+    let mut step = Vec::new(alloc);
+    for _ in 0..cores {
+        match ready.pop_first() {
+            Some((_, vertex)) => step.push(vertex)?,
+            None => return Ok(step),
+        }
+    }
+    Ok(step)
+}
+
+// Adds the vertices, each behind its lane.
+fn add_ready(
+    ready: &mut BTreeSet<(u32, u32)>,
+    lanes: &[u32],
+    vertices: &Vec<u32>,
+) -> Result<(), AllocError>
+    requires { All (λ v. v < length lanes.now) vertices.now.items }
+    ensures { OnOk result ((k : ℕ × ℕ) → Contains ready.new.keys k ↔ (Contains ready.old.keys k ⊎ (Contains vertices.now.items k.1 × (k.0 ≡ slice_index lanes.now k.1)))) }
+{
+    for vertex in vertices {
+        ready.insert((lanes[*vertex as usize], *vertex))?;
+    }
+    Ok(())
+}
+
+/// The canonical plan on so many cores: at each step the first ready vertices, by lane and then by number, until none
+/// is left. `lanes` has the lane of each vertex.
+pub fn plan_by_lanes(
+    alloc: Global,
+    graph: &Graph,
+    lanes: &[u32],
+    cores: u32,
+) -> Result<Schedule, AllocError>
+    requires cores { 1 ≤ cores }
+    requires lanes { length lanes.now ≡ vertex_total graph.now }
+    ensures plan { IfOk result (λ s. IsPlan graph.now lanes.now cores (steps_of s)) }
+    ensures unique { IfOk result (λ s. (other : List (List ℕ)) → IsPlan graph.now lanes.now cores other → other ≡ steps_of s) }
+    ensures prompt { IfOk result (λ s. (pairs : List (ℕ × ℕ)) → IsAcyclic graph.now → LanesFit graph.now pairs lanes.now → IsPrompt graph.now (IsVertexBelow graph.now pairs) cores (steps_of s)) }
+{
+    let count = graph.vertex_count() as usize;
+    let mut marks = vec![in alloc; false; count]?;
+    let mut seen = vec![in alloc; 0usize; count]?;
+    let mut ready = BTreeSet::new(alloc);
+    let start = sources(alloc, graph)?;
+    add_ready(&mut ready, lanes, &start)?;
+    let mut steps = Vec::new(alloc);
+    'steps: while ready.len() > 0 {
+        let step = take_first(alloc, &mut ready, cores)?;
+        let freed = run_step(alloc, graph, &mut marks, &mut seen, &step)?;
+        add_ready(&mut ready, lanes, &freed)?;
+        steps.push(step)?;
+    }
+    Ok(Schedule { steps })
+}

@@ -1,0 +1,6 @@
+use Rattle.std.proofs.Common.{take}
+use Rattle.response_report.specs.Places.{IsRelease}
+use Rattle.response_report.proofs.place.release.Given as goal
+
+abbrev pub invariant-loop-vertex : goal.invariant-loop-vertex
+invariant-loop-vertex l = IsRelease l.places.items (take l.vertex-index l.vertices) l.best

@@ -1,0 +1,13 @@
+//! The response of each thread under a prompt schedule, and its bound.
+#![tactic(auto)]
+
+mod bound;
+mod place;
+mod report;
+mod row;
+mod text;
+
+pub use bound::response_is_bounded;
+pub use report::rows;
+pub use row::{ReportStop, Row};
+pub use text::response_text;

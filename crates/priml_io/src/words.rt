@@ -67,6 +67,14 @@ const SAMPLES: u64 = 5_000;
 /// The command of these words, which are those after the program's own name. Of its numbers the first that is bad
 /// or out of range decides. Leading zeros are allowed.
 pub fn read_words(words: &[String]) -> Result<Command, WordsFault>
+    ensures reads { ReadsWords (map string_bytes words.now) result }
+    ensures only { (c : Command) → ReadsWords (map string_bytes words.now) (Ok c) → result ≡ Ok c }
+{
+    read_line(words)
+}
+
+// The command of these words, the only one.
+fn read_line(words: &[String]) -> Result<Command, WordsFault>
     ensures { ReadsWords (map string_bytes words.now) result }
 {
     if words.is_empty() {

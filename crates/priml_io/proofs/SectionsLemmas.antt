@@ -23,7 +23,7 @@ pub record Passed (text rest : List ℕ) (count : ℕ) : Type 0 where
 pub passed-none : (text : List ℕ) → Passed text text 0
 passed-none text = record { front = []; is = refl; count_is = refl; few = omega arith; plain = All-nil (λ line. ¬ IsMarked line); whole = inr (inl refl) }
 
-marked-append : (line more : List ℕ) → IsMarked line → IsMarked (line ++ more)
+pub marked-append : (line more : List ℕ) → IsMarked line → IsMarked (line ++ more)
 marked-append [] more m = absurd (omega (arith, ap length m))
 marked-append (a ∷ []) more m = absurd (omega (arith, ap length m))
 marked-append (a ∷ b ∷ []) more m = absurd (omega (arith, ap length m))

@@ -1,6 +1,6 @@
 use Rattle.std.proofs.Common.{◌≤◌, ◌+◌, length}
 use Rattle.priml_io.specs.Sections.{bytes_of, Gathers}
-use Rattle.priml_io.proofs.sections.split.Given as goal
+use Rattle.priml_io.proofs.sections.cut.Given as goal
 
 abbrev pub invariant-loop-rest : goal.invariant-loop-rest
 invariant-loop-rest l = record {

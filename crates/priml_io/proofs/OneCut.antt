@@ -1,9 +1,9 @@
 -- An input is cut into a program and sections in one way at most, and has one section fault at most.
-use Rattle.std.proofs.Common.{◌≡◌, ◌≢◌, ℕ, ◌+◌, ◌<◌, ◌≤◌, ◌⊎◌, List, [], ◌∷◌, ◌++◌, length, codes, get_or, Bool, true, false, Option, None, Some, IsSome, refl, sym, ap, subst, ◌∙◌, arith, length-append, inl, inr}
+use Rattle.std.proofs.Common.{◌≡◌, ◌≢◌, ℕ, ◌+◌, ◌≤◌, ◌⊎◌, List, [], ◌∷◌, ◌++◌, length, codes, get_or, true, false, Option, None, Some, IsSome, refl, sym, ap, ◌∙◌, arith, length-append, inl, inr}
 use Rattle.priml_io.specs.Lines.{lines}
 use Rattle.priml_io.specs.declared.sections.SectionFault.{SectionFault}
 use Rattle.priml_io.specs.declared.sections.SectionFault.TheVariants as fault
-use Rattle.priml_io.specs.Sections.{IsMarked, IsRow, IsPart, IsHeading, IsSection, Gathers, none, inputs, schedule, Meets, HasSectionFault}
+use Rattle.priml_io.specs.Sections.{IsMarked, IsRow, IsPart, IsHeading, IsSection, Gathers, none, inputs, schedule, HasSectionFault}
 use Rattle.priml_io.proofs.OnePart.{one_part, one_row, one_section}
 
 -- how far an input was cut: the bodies of the sections so far, and the number of the line after them with what is left
@@ -124,6 +124,7 @@ section-some : (name body after : List ℕ) → ¬ IsSection name [] body after
 section-some name body after s = go s.row.ended where
   long : 3 ≤ length s.line
   long = omega (arith, ap length s.heading.1, length-append (codes "===" ++ name) s.heading.0)
+
   go : (s.bytes ≡ s.line ++ 10 ∷ []) ⊎ ((s.bytes ≡ s.line) × (body ++ after ≡ [])) → ⊥
   go (inl e) = omega (arith, long, ap length e, length-append s.line (10 ∷ []), ap length s.is, length-append s.bytes (body ++ after))
   go (inr q) = omega (arith, long, ap length q.0, ap length s.is, length-append s.bytes (body ++ after))

@@ -1,10 +1,10 @@
 -- A text begins with one part, one line and one section at most.
-use Rattle.std.proofs.Common.{drop, Bool, true, false, if◌then◌else◌, ◌==◌, ◌≡◌, ◌≢◌, ℕ, ◌+◌, ◌<◌, ◌≤◌, ◌⊎◌, List, [], ◌∷◌, ◌++◌, length, take, codes, All, get_or, refl, sym, ap, ◌∙◌, arith, append_assoc, append-nil, length-append, inl, inr}
+use Rattle.std.proofs.Common.{drop, Bool, true, false, if◌then◌else◌, ◌==◌, ◌≡◌, ◌≢◌, ℕ, ◌<◌, ◌≤◌, ◌⊎◌, List, [], ◌∷◌, ◌++◌, length, codes, All, get_or, refl, sym, ap, ◌∙◌, arith, append_assoc, append-nil, length-append, inl, inr}
 use Rattle.std.proofs.Math.Seq.{drop-append_seam}
 use Rattle.std.proofs.lemmas.List.{drop-append-le, take-append-drop}
 use Rattle.std.proofs.lemmas.List.Elements.{All-head, All-tail, All-drop}
 use Rattle.priml_io.specs.Lines.{lines, lines_from}
-use Rattle.priml_io.specs.Sections.{IsMarked, IsRow, IsWhole, IsPart, IsHeading, IsSection}
+use Rattle.priml_io.specs.Sections.{IsMarked, IsRow, IsWhole, IsPart, IsSection}
 use Rattle.priml_io.proofs.LinesLemmas.{lines-append}
 use Rattle.priml_io.proofs.SectionsLemmas.{marked-append}
 
@@ -50,9 +50,9 @@ marked-read (x ∷ xs) [] m all = All-head (λ v. ¬ IsMarked v) (x ∷ xs) [] a
 marked-read line (b ∷ bs) m all =
     let at : Bool → Type 0 = λ t. ¬ All (λ v. ¬ IsMarked v) (if t then line ∷ lines_from [] bs else lines_from (line ++ b ∷ []) bs) in
     (elim (b == 10) as at [
-        | true ↦ λ h. All-head (λ v. ¬ IsMarked v) line (lines_from [] bs) h m
-        | false ↦ marked-read (line ++ b ∷ []) bs (marked-append line (b ∷ []) m)
-      ])
+      | true ↦ λ h. All-head (λ v. ¬ IsMarked v) line (lines_from [] bs) h m
+      | false ↦ marked-read (line ++ b ∷ []) bs (marked-append line (b ∷ []) m)
+    ])
     all
 
 -- a marked text has a marked line
@@ -60,8 +60,8 @@ marked-line : (text : List ℕ) → IsMarked text → ¬ All (λ line. ¬ IsMark
 marked-line text m all =
     let is : text ≡ codes "===" ++ drop 3 text = sym (take-append-drop 3 text) ∙ ap (λ v. v ++ drop 3 text) m in
     go (drop 3 text) text is all where
-  go : (rest text : List ℕ) → text ≡ codes "===" ++ rest → ¬ All (λ line. ¬ IsMarked line) (lines text)
-  go rest text e h = marked-read (codes "===") rest refl (rw e at h)
+      go : (rest text : List ℕ) → text ≡ codes "===" ++ rest → ¬ All (λ line. ¬ IsMarked line) (lines text)
+      go rest text e h = marked-read (codes "===") rest refl (rw e at h)
 
 marked-alone : (text after : List ℕ) → after ≡ [] → IsMarked (text ++ after) → IsMarked text
 marked-alone text after e m = rw (e, append-nil text) at m
@@ -75,6 +75,7 @@ no_longer part [] after p q = refl
 no_longer part (b ∷ more) after p q = absurd (go p.ended q.ended) where
   plain : IsWhole part → All (λ line. ¬ IsMarked line) (lines (b ∷ more))
   plain w = rest-all (λ line. ¬ IsMarked line) (lines part) (lines (b ∷ more)) (rw (lines-append part (b ∷ more) w) at q.plain)
+
   go : ((b ∷ more) ++ after ≡ []) ⊎ (IsWhole part × IsMarked ((b ∷ more) ++ after)) → (after ≡ []) ⊎ (IsWhole (part ++ b ∷ more) × IsMarked after) → ⊥
   go (inl e) r = omega (arith, ap length e)
   go (inr (w, m)) (inl e) = marked-line (b ∷ more) (marked-alone (b ∷ more) after e m) (plain w)

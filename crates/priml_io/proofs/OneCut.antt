@@ -13,12 +13,14 @@ record Place : Type 0 where
   number : ℕ
   left : List ℕ
 
+-- the section `inputs` leads from here to there
 record NextInputs (here there : Place) : Type 0 where
   body : List ℕ
   new : here.of_inputs ≡ None
   section : IsSection (codes "inputs") here.left body there.left
   is : there ≡ record { of_inputs = Some body; of_schedule = here.of_schedule; number = here.number + 1 + length (lines body); left = there.left }
 
+-- the section `schedule` leads from here to there
 record NextSchedule (here there : Place) : Type 0 where
   body : List ℕ
   new : here.of_schedule ≡ None
@@ -133,7 +135,7 @@ empty-end : (i s : Option (List ℕ)) (n : ℕ) → IsEnd (record { of_inputs = 
 empty-end i s n there (inl p) = section-some (codes "inputs") p.body there.left p.section
 empty-end i s n there (inr p) = section-some (codes "schedule") p.body there.left p.section
 
--- An input is cut in one way: its program, the bodies of its sections, and how many lines there are.
+-- An input that is cut to its end is cut in one way: the same program, bodies and number of the line after them.
 pub one_cut : (input program program' : List ℕ) (i i' s s' : Option (List ℕ)) (n n' : ℕ) → Gathers input program i s n [] → Gathers input program' i' s' n' [] → (program ≡ program') × (i ≡ i') × (s ≡ s') × (n ≡ n')
 one_cut input program program' i i' s s' n n' g h =
     let same = one_end input program program' _ _ (empty-end i s n) (empty-end i' s' n') (begun input program i s n [] g) (begun input program' i' s' n' [] h) in
@@ -218,7 +220,7 @@ one_kind (fault.TwiceSection m) (fault.TwiceSection n) number line a b = ap faul
 one_kind (fault.UnknownSection m) (fault.TwiceSection n) number line a b = absurd (elim b.1 [ inl h ↦ a.1 h | inr h ↦ a.2 h ])
 one_kind (fault.TwiceSection m) (fault.UnknownSection n) number line a b = absurd (elim a.1 [ inl h ↦ b.1 h | inr h ↦ b.2 h ])
 
--- An input that is cut has no section fault.
+-- An input that is cut to its end has no section fault.
 pub cut_right : (input program : List ℕ) (i s : Option (List ℕ)) (n : ℕ) (f : SectionFault) → Gathers input program i s n [] → ¬ HasSectionFault input f
 cut_right input program i s n f g h =
     let b = stops input f h in

@@ -11,3 +11,10 @@ pub mod Walks
 pub mod Above
 pub mod Ends
 pub mod Names
+pub mod Appended
+pub mod Parts
+pub mod Spawns
+pub mod Arrows
+pub mod Made
+pub mod Carried
+pub mod OneGraph

@@ -5,3 +5,4 @@ pub mod Order
 pub mod View
 pub mod Records
 pub mod Text
+pub mod Tables

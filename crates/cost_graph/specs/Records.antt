@@ -6,6 +6,8 @@ use Rattle.priml_syntax.specs.declared.event.Event.TheVariants.{Start, Spawn, Jo
 use Rattle.priml_syntax.specs.Paths.{same_path, child_path}
 use Rattle.priml_syntax.specs.Events.{spawns}
 use Rattle.priml_syntax.specs.Values.{Entry}
+use Rattle.priml_syntax.specs.Read.{read_record}
+use Rattle.priml_syntax.specs.declared.record.Record.{Record}
 use Rattle.priority_order.specs.Order.{AtMost}
 use Rattle.cost_graph.specs.Walks.{Reaches, HasNoCycle}
 use Rattle.cost_graph.specs.declared.graph.Thread.{Thread}
@@ -22,6 +24,10 @@ part_of r = record { path = r.path; prio = r.prio; events = r.events }
 
 abbrev pub parts_of : List Entry → List Part
 parts_of = map part_of
+
+-- the threads of declared records
+abbrev pub parts_in : List Record → List Part
+parts_in rs = parts_of (map read_record rs)
 
 -- the thread of a path
 abbrev pub part_at : List Part → List ℕ → Option Part
@@ -73,7 +79,7 @@ IsThere xs p = (x : Part) × (part_at xs p ≡ Some x)
 
 -- some thread made the one of the path in one of its Spawns
 abbrev pub IsSpawned : List Part → List ℕ → Type 0
-IsSpawned xs p = (y : Part) (k : ℕ) × Contains xs y × (p ≡ child_path y.path k) × (k < spawns y.events)
+IsSpawned xs p = (y : Part) × (k : ℕ) × Contains xs y × (p ≡ child_path y.path k) × (k < spawns y.events)
 
 -- the threads of a job that has finished, each with all its events
 pub record AreFinished (xs : List Part) : Type 0 where

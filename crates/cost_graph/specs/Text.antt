@@ -25,23 +25,20 @@ vertex_text g v = name_text (name_of g v)
 abbrev pub thread_line : List (List ℕ) → Thread → List ℕ
 thread_line names t = codes "thread " ++ path_text t.path ++ codes " " ++ get_or names t.priority [] ++ codes " " ++ decimal t.vertices ++ 10 ∷ []
 
--- the line of an edge from u to v: its kind and the two vertices
-abbrev pub spawn_line : CostGraph → ℕ → ℕ → List ℕ
-spawn_line g v u = codes "spawn " ++ vertex_text g u ++ codes " " ++ vertex_text g v ++ 10 ∷ []
-
-abbrev pub join_line : CostGraph → ℕ → ℕ → List ℕ
-join_line g v u = codes "join " ++ vertex_text g u ++ codes " " ++ vertex_text g v ++ 10 ∷ []
+-- the line of an edge of this kind to v from u
+abbrev pub edge_line : CostGraph → List ℕ → ℕ → ℕ → List ℕ
+edge_line g kind v u = kind ++ codes " " ++ vertex_text g u ++ codes " " ++ vertex_text g v ++ 10 ∷ []
 
 -- an edge to the first vertex of a thread is the Spawn of that thread
 abbrev pub spawn_lines : CostGraph → ℕ → List ℕ
-spawn_lines g t = flat_map (spawn_line g (first_vertex g t)) (parents_at g (first_vertex g t))
+spawn_lines g t = flat_map (edge_line g (codes "spawn") (first_vertex g t)) (parents_at g (first_vertex g t))
 
 -- an edge to a later vertex of a thread is a Join, but for the one from the vertex before it
-abbrev pub join_parents : CostGraph → ℕ → List ℕ
-join_parents g v = if nat_eq (name_of g v).number 0 then [] else filter (λ u. not (nat_eq (u + 1) v)) (parents_at g v)
+abbrev pub joins_to : ℕ → List ℕ → List ℕ
+joins_to v = filter (λ u. not (nat_eq (u + 1) v))
 
 abbrev pub join_lines : CostGraph → ℕ → List ℕ
-join_lines g v = flat_map (join_line g v) (join_parents g v)
+join_lines g v = if nat_eq (name_of g v).number 0 then [] else flat_map (edge_line g (codes "join") v) (joins_to v (parents_at g v))
 
 -- the threads in the order of their paths, then the spawn edges in the order of the threads, then the join edges in that
 -- of the vertices that they lead to

@@ -4,8 +4,10 @@
 mod build;
 mod graph;
 mod kin;
+mod lines;
 mod marks;
 mod order;
+mod records;
 mod text;
 
 pub use graph::{Graph, Thread};

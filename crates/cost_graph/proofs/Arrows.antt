@@ -35,7 +35,7 @@ only_one a x c = elim (member_cons a [] x c) [ inl e ↦ e | inr late ↦ absurd
 child_long : (p : List ℕ) (k : ℕ) → length (child_path p k) ≡ length p + 1
 child_long p k = length-append p (k ∷ [])
 
-child_same : (p q : List ℕ) (j k : ℕ) → child_path p j ≡ child_path q k → (p ≡ q) × (j ≡ k)
+pub child_same : (p q : List ℕ) (j k : ℕ) → child_path p j ≡ child_path q k → (p ≡ q) × (j ≡ k)
 child_same [] [] j k e = let s : j ≡ k = cc in (refl, s)
 child_same [] (y ∷ q) j k e =
     let l = ap length e in
@@ -72,7 +72,7 @@ module _ (xs : List Part) (finished : AreFinished xs) (apart : AreApart xs) (t :
   -- ---- the first vertex
 
   -- only a Spawn leads there
-  first_edge : (u : Vertex) → IsEdge xs u (vertex_at xs t 0) → Spawns xs u (vertex_at xs t 0)
+  pub first_edge : (u : Vertex) → IsEdge xs u (vertex_at xs t 0) → Spawns xs u (vertex_at xs t 0)
   first_edge u (inl h) = absurd (omega (arith, h.2))
   first_edge u (inr (inl h)) = h
   first_edge u (inr (inr h)) =

@@ -18,7 +18,7 @@ use Rattle.cost_graph.proofs.Members.{no_member}
 use Rattle.cost_graph.proofs.Parts.{AreApart, part_found, part_here, one_number, number_named, number_small, numbered, name_at, thread_nth, firsts_same, totals_same}
 
 -- a vertex of the threads has a number
-vertex_number : (xs : List Part) (v : Vertex) → IsVertex xs v → (a : ℕ) × IsNumber xs v a
+pub vertex_number : (xs : List Part) (v : Vertex) → IsVertex xs v → (a : ℕ) × IsNumber xs v a
 vertex_number xs v h =
     let found = part_found xs v.path h.0 h.1 in
     let below : v.number < length (part_nth xs found.0).events = subst (λ (x : Part). v.number < length x.events) (sym found.2) h.2 in
@@ -39,13 +39,13 @@ edge_ends g u v ok e =
     ]
 
 module _ (xs : List Part) (apart : AreApart xs) (g : CostGraph) (h : IsGraphOf xs g) where
-  total : vertex_total g ≡ event_total xs
+  pub total : vertex_total g ≡ event_total xs
   total = sym h.kept.covers ∙ ap (sum_by (λ (x : Thread). x.vertices)) h.threads ∙ totals_same xs
 
-  name_is : (a : ℕ) → name_of g a ≡ name_in (map thread_of xs) a
+  pub name_is : (a : ℕ) → name_of g a ≡ name_in (map thread_of xs) a
   name_is a = ap (λ ts. name_in ts a) h.threads
 
-  number_of_name : (a : ℕ) → a < vertex_total g → IsNumber xs (name_of g a) a
+  pub number_of_name : (a : ℕ) → a < vertex_total g → IsNumber xs (name_of g a) a
   number_of_name a lt = subst (λ (v : Vertex). IsNumber xs v a) (sym (name_is a)) (numbered xs a (omega (arith, lt, total)))
 
   -- a walk by numbers is one by names
@@ -72,13 +72,13 @@ module _ (xs : List Part) (apart : AreApart xs) (g : CostGraph) (h : IsGraphOf x
   pub carried_acyclic : IsAcyclicGraph xs → IsAcyclic g
   carried_acyclic none v w ws e = none (name_of g v) (name_of g w) (map (name_of g) ws) (named_walk v (w ∷ ws) v e)
 
-  thread_is : (t : ℕ) → t < thread_total g → t < length xs
+  pub thread_is : (t : ℕ) → t < thread_total g → t < length xs
   thread_is t lt = omega (arith, lt, ap (λ (ts : List Thread). length ts) h.threads, length-map xs thread_of)
 
-  thread_same : (t : ℕ) → t < length xs → thread_at g t ≡ thread_of (part_nth xs t)
+  pub thread_same : (t : ℕ) → t < length xs → thread_at g t ≡ thread_of (part_nth xs t)
   thread_same t lt = ap (λ ts. get_or ts t no_thread) h.threads ∙ thread_nth xs t lt
 
-  first_same : (t : ℕ) → first_vertex g t ≡ first_in xs t
+  pub first_same : (t : ℕ) → first_vertex g t ≡ first_in xs t
   first_same t = ap (λ ts. sum_by (λ (x : Thread). x.vertices) (take t ts)) h.threads ∙ firsts_same xs t
 
   -- the start of a walk to a vertex is a vertex

@@ -18,3 +18,4 @@ pub mod Arrows
 pub mod Made
 pub mod Carried
 pub mod OneGraph
+pub mod Said

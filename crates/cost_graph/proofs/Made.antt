@@ -16,7 +16,7 @@ use Rattle.priml_syntax.specs.Records.{InPathOrder}
 use Rattle.cost_graph.specs.declared.graph.Thread.{Thread}
 use Rattle.cost_graph.specs.declared.records.Tables.{Tables}
 use Rattle.cost_graph.specs.Graph.{Vertex, thread_at, first_vertex, name_in, IsGraph}
-use Rattle.cost_graph.specs.View.{lists}
+use Rattle.cost_graph.specs.View.{lists, graph_of}
 use Rattle.cost_graph.specs.Records.{Part, part_of, parts_in, part_at, event_total, end_of, thread_of, AreFinished, IsEdge, IsGraphOf}
 use Rattle.cost_graph.specs.Tables.{part_nth, first_in, vertex_at, IsNumber, AreParents, AreRight, AreSpawnPlaces, AreFirstsOf, AreKnown}
 use Rattle.cost_graph.proofs.Members.{no_member}
@@ -158,11 +158,16 @@ module _ (rs : List Record) (order : InPathOrder (map read_record rs)) (finished
       numbers : (u v : ℕ) → u < length parents → v < length parents → IsEdge (parts_in rs) (name_in (map thread_of (parts_in rs)) u) (name_in (map thread_of (parts_in rs)) v) → Contains (get_or parents v []) u
       numbers u v u_lt v_lt e = (right v v_lt).has (name_in (map thread_of (parts_in rs)) u) u (numbered (parts_in rs) u (omega (arith, u_lt, long))) e
 
--- the same for threads that are known to be those
-pub made_whole : (rs : List Record) (ts : List Thread) (ps : List (List ℕ)) → InPathOrder (map read_record rs) → AreFinished (parts_in rs) → ts ≡ map thread_of (parts_in rs) → length ps ≡ event_total (parts_in rs) → AreRight (parts_in rs) ps
-    → IsGraphOf (parts_in rs) (record { threads = ts; parents = ps })
-made_whole rs ts ps order finished e long right =
-    subst (λ (l : List Thread). IsGraphOf (parts_in rs) (record { threads = l; parents = ps })) (sym e) (made_of rs order finished ps long right)
+-- the same for what is known of the list that the records gave
+pub made_of_list : (l rs : List Record) (ts : List Thread) (ps : List (Vec ℕ Global)) → l ≡ rs → InPathOrder (map read_record l) → AreFinished (parts_in rs) → ts ≡ map thread_of (parts_in l) → length ps ≡ event_total (parts_in l) → AreRight (parts_in l) (lists ps)
+    → IsGraphOf (parts_in rs) (graph_of ts ps)
+made_of_list l rs ts ps same order finished e long right =
+    let there : AreFinished (parts_in l) = subst (λ (z : List Record). AreFinished (parts_in z)) (sym same) finished in
+    let made = made_of l order there (lists ps) (lists_length ps ∙ long) right in
+    subst (λ (z : List Record). IsGraphOf (parts_in z) (graph_of ts ps)) same (subst (λ (z : List Thread). IsGraphOf (parts_in l) (graph_of z ps)) (sym e) made)
+
+pub apart_of_list : (l rs : List Record) → l ≡ rs → InPathOrder (map read_record l) → AreApart (parts_in rs)
+apart_of_list l rs same order = subst (λ (z : List Record). AreApart (parts_in z)) same (apart_in l order)
 
 -- the table of the first vertices
 pub firsts_known : (xs : List Part) (ts : List Thread) (fs : List ℕ) → ts ≡ map thread_of xs → length fs ≡ length ts → ((t : ℕ) → t < length ts → get_or fs t 0 ≡ sum_by (λ (x : Thread). x.vertices) (take t ts)) → AreFirstsOf xs fs

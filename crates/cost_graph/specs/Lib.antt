@@ -6,3 +6,4 @@ pub mod View
 pub mod Records
 pub mod Text
 pub mod Tables
+pub mod RecordLines

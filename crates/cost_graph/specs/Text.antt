@@ -25,9 +25,13 @@ vertex_text g v = name_text (name_of g v)
 abbrev pub thread_line : List (List ℕ) → Thread → List ℕ
 thread_line names t = codes "thread " ++ path_text t.path ++ codes " " ++ get_or names t.priority [] ++ codes " " ++ decimal t.vertices ++ 10 ∷ []
 
+-- the line of an edge of this kind, by the names of its ends
+abbrev pub edge_text : List ℕ → Vertex → Vertex → List ℕ
+edge_text kind u v = kind ++ codes " " ++ name_text u ++ codes " " ++ name_text v ++ 10 ∷ []
+
 -- the line of an edge of this kind to v from u
 abbrev pub edge_line : CostGraph → List ℕ → ℕ → ℕ → List ℕ
-edge_line g kind v u = kind ++ codes " " ++ vertex_text g u ++ codes " " ++ vertex_text g v ++ 10 ∷ []
+edge_line g kind v u = edge_text kind (name_of g u) (name_of g v)
 
 -- an edge to the first vertex of a thread is the Spawn of that thread
 abbrev pub spawn_lines : CostGraph → ℕ → List ℕ

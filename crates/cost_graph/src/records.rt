@@ -6,6 +6,7 @@ ghost use Rattle.priml_syntax.specs.Read.{read_record};
 ghost use Rattle.priml_syntax.specs.Records.{InPathOrder};
 ghost use Rattle.cost_graph.specs.Graph.{CostGraph, IsAcyclic, IsWellFormed};
 ghost use Rattle.cost_graph.specs.View.{lists};
+ghost use Rattle.cost_graph.specs.RecordLines.{HasLinesOf};
 ghost use Rattle.cost_graph.specs.Records.{part_of, parts_in, event_total, end_of, thread_of, IsThere, AreFinished, IsGraphOf, IsAcyclicGraph, IsWellFormedGraph, part_at, Part};
 ghost use Rattle.cost_graph.specs.Tables.{part_nth, first_in, vertex_at, IsNumber, AreParents, AreRight, AreSpawnPlaces, AreSpawnLists, AreKnown, IsKthSpawn, HasSpawn, ArePair};
 
@@ -31,6 +32,7 @@ impl Graph {
         requires { AreFinished (parts_in records.now) }
         ensures graph { IfOk result (IsGraphOf (parts_in records.now)) }
         ensures only { IfOk result (λ g. (other : CostGraph) → IsGraphOf (parts_in records.now) other → g ≡ other) }
+        ensures lines { IfOk result (HasLinesOf (parts_in records.now)) }
         ensures acyclic { IfOk result (λ g. IsAcyclicGraph (parts_in records.now) → IsAcyclic g) }
         ensures well_formed { IfOk result (λ g. (pairs : List (ℕ × ℕ)) → IsWellFormedGraph pairs (parts_in records.now) → IsWellFormed g pairs) }
     {

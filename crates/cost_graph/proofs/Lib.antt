@@ -10,3 +10,12 @@ pub mod Sorting
 pub mod Walks
 pub mod Above
 pub mod Ends
+pub mod Names
+pub mod Appended
+pub mod Parts
+pub mod Spawns
+pub mod Arrows
+pub mod Made
+pub mod Carried
+pub mod OneGraph
+pub mod Said

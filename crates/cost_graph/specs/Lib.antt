@@ -4,3 +4,6 @@ pub mod Marks
 pub mod Order
 pub mod View
 pub mod Records
+pub mod Text
+pub mod Tables
+pub mod RecordLines

@@ -95,6 +95,14 @@ impl Graph {
         self.threads[t as usize].priority
     }
 
+    /// How many vertices thread t has, at least 1.
+    pub fn vertices_of(&self, t: u32) -> u32
+        requires { t < thread_total self.now }
+        ensures { result ≡ (thread_at self.now t).vertices }
+    {
+        self.threads[t as usize].vertices
+    }
+
     /// The first vertex of thread t.
     pub fn first_of(&self, t: u32) -> u32
         requires { t < thread_total self.now }

@@ -4,10 +4,14 @@
 mod build;
 mod graph;
 mod kin;
+mod lines;
 mod marks;
 mod order;
+mod records;
+mod text;
 
 pub use graph::{Graph, Thread};
 pub use kin::{ancestors, descendants};
 pub use marks::{run_step, sources, visit};
 pub use order::topological;
+pub use text::{push_path, push_vertex};

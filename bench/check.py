@@ -1,12 +1,20 @@
 #!/usr/bin/env python3
-"""Times `check` beside sha256sum on programs of 1, 2 and 4 MB.
+"""Times `check` beside sha256sum on texts of 1, 2 and 4 MB.
 
-    bench/check.py [PROGRAM]
+    bench/check.py [PROGRAM] [--only KIND]
 
-Two kinds of text: a typable program of the first part of the language (blocks in blocks, up to 32 variables in scope and
-60 open brackets), and a text of many distinct names, which is no program. The time is processor time, user and system,
-the least of seven runs, in milliseconds; the ratio is that of the two times.
+Typable programs, of which a ratio of 8 is the most that may be:
+  threads   blocks in blocks: spawn, sync and ret, up to 32 variables in scope and 60 open brackets
+  limits    255 procedures over 8 priority variables, 16 constraints and 8 parameters, types of 16 nodes, 32 variables in scope
+Hostile texts, of which a ratio of 20 is the most that may be:
+  names     distinct names with blanks between
+  brackets  pairs of brackets, 60 deep, in a program
+  inputs    a small program and many lines of inputs
+  type      one type of half a million nodes for each megabyte and a half
+  comment   a comment that fills the text
+The time is processor time, user and system, the least of seven runs, in milliseconds; the ratio is that of the two times.
 """
+import argparse
 import os
 import random
 import resource
@@ -62,6 +70,123 @@ def program_of(size, seed=1):
     return text + "\n#" + "x" * (size - len(text) - 2)
 
 
+# the priority variables of each procedure of `limits_of`, each at most the next
+VARIABLES = "abcdefgh"
+
+# a type of 15 nodes
+PAIRS = "(((int * int) * (int * int)) * ((int * int) * (int * int)))"
+
+
+def procedure_of(chance, number, size):
+    """Procedure `number`, of about `size` bytes; it calls the procedures before it and itself."""
+    given = [(i, i + 1) for i in range(7)] + [(0, j) for j in range(2, 8)] + [(1, j) for j in range(3, 6)]
+    params = ["p%d : thread[%s](%s)" % (i, VARIABLES[i + 1], PAIRS) for i in range(4)] + [
+        "p4 : %s" % PAIRS, "p5 : %s" % PAIRS, "p6 : int", "p7 : bool"]
+    out = ["proc f%d[%s; %s](%s) at a : int {\n" % (
+        number, ", ".join(VARIABLES), ", ".join("%s <= %s" % (VARIABLES[i], VARIABLES[j]) for i, j in given), ", ".join(params))]
+    length = len(out[0])
+    # for each open block: its priority, its variables with their kinds, and what the block of its action is
+    first = [("p%d" % i, ("thread", i + 1, "pairs")) for i in range(4)] + [("p4", "pairs"), ("p5", "pairs"), ("p6", "int"), ("p7", "bool")]
+    blocks = [(0, first, None)]
+
+    def put(text):
+        nonlocal length
+        out.append(text)
+        length += len(text)
+
+    def of_kind(scope, kind):
+        return chance.choice([name for name, k in scope if k == kind])
+
+    while blocks:
+        own, scope, opened = blocks[-1]
+        name = "v%d" % len(scope)
+        if length > size or len(scope) >= 32:
+            put("ret %s }" % of_kind(scope, "int"))
+            blocks.pop()
+            if blocks:
+                put(";\n")
+                below = blocks[-1][1]
+                below.append(("v%d" % len(below), opened))
+            continue
+        threads = [(n, k) for n, k in scope if isinstance(k, tuple) and k[1] >= own]
+        kind = chance.random()
+        if kind < 0.15 and len(blocks) < 55:
+            other = chance.randrange(8)
+            put("%s <- spawn[%s] { " % (name, VARIABLES[other]))
+            blocks.append((other, list(scope), ("thread", other, "int")))
+            continue
+        if kind < 0.25 and len(blocks) < 55:
+            put("%s <- do { " % name)
+            blocks.append((own, list(scope), "int"))
+            continue
+        if kind < 0.4 and threads:
+            other = chance.choice(threads)
+            put("%s <- sync %s;\n" % (name, other[0]))
+            scope.append((name, other[1][2]))
+        elif kind < 0.5 and own == 0:
+            put("%s <- call f%d[%s](%s);\n" % (name, chance.randrange(number + 1), ", ".join(VARIABLES), ", ".join("p%d" % i for i in range(8))))
+            scope.append((name, "int"))
+        elif kind < 0.7:
+            part = "%s(%s(%s(%s)))" % (chance.choice(["fst", "snd"]), chance.choice(["fst", "snd"]), chance.choice(["fst", "snd"]), of_kind(scope, "pairs"))
+            put("%s <- ret (%s + (%s * %d));\n" % (name, part, of_kind(scope, "int"), chance.randrange(1000)))
+            scope.append((name, "int"))
+        elif kind < 0.85:
+            put("%s <- ret (not((%s < %s)) and %s);\n" % (name, of_kind(scope, "int"), of_kind(scope, "int"), of_kind(scope, "bool")))
+            scope.append((name, "bool"))
+        else:
+            four = "((%s, %s), (%s, 1))" % tuple(of_kind(scope, "int") for _ in range(3))
+            put("%s <- ret (%s, %s);\n" % (name, four, four))
+            scope.append((name, "pairs"))
+    put("\n")
+    return "".join(out)
+
+
+def limits_of(size, seed=2):
+    """A typable program of `size` bytes near the limits of the language, the last of them a comment."""
+    chance = random.Random(seed)
+    out = ["".join("priority q%d;\n" % i for i in range(16))]
+    out += [procedure_of(chance, number, size // 256 - 900) for number in range(255)]
+    out.append("main at q0 : int { ret 0 }\n")
+    text = "".join(out)
+    if len(text) > size - 2:
+        raise ValueError("the program came out too long")
+    return text + "#" + "x" * (size - len(text) - 1)
+
+
+def filled(front, part, back, size):
+    """The front, the part as often as there is room, the back, and blanks."""
+    count = (size - len(front) - len(back)) // len(part)
+    text = front + part * count + back
+    return text + " " * (size - len(text))
+
+
+def brackets_of(size):
+    """A program of expressions in 60 brackets."""
+    return filled("priority p; main at p : int { ", "x <- do { y <- ret %s1%s; ret y }; " % ("(" * 60, ")" * 60), "ret 1 }", size)
+
+
+def inputs_of(size):
+    """A small program and lines of inputs, each for a path of its own."""
+    out = ["priority p; main at p : int { ret 1 }\n===inputs\n"]
+    length = len(out[0])
+    number = 0
+    while True:
+        line = "0.%d: 5 -6\n" % number
+        if length + len(line) > size:
+            return "".join(out) + "#" * (size - length)
+        out.append(line)
+        length += len(line)
+        number += 1
+
+
+def type_of(size):
+    """A main whose result type is a balanced tree of pairs."""
+    ty = "int"
+    while 2 * len(ty) + 3 + 60 < size:
+        ty = "(%s*%s)" % (ty, ty)
+    return filled("priority p; main at p : ", ty, " { ret 1 }", len(ty) + 60)
+
+
 def names_of(size):
     """Distinct names with blanks between, as many as there is room for."""
     out = []
@@ -90,11 +215,28 @@ def milliseconds(command, path):
     return least, line
 
 
+KINDS = {
+    "threads": program_of,
+    "limits": limits_of,
+    "names": names_of,
+    "brackets": brackets_of,
+    "inputs": inputs_of,
+    "type": type_of,
+    "comment": lambda size: "#" + "x" * (size - 1),
+}
+
+
 def main():
-    program = sys.argv[1] if len(sys.argv) > 1 else os.path.join(TOP, "crates", "priml", "out", "priml")
+    parser = argparse.ArgumentParser(description="Times `check` beside sha256sum.")
+    parser.add_argument("program", nargs="?", default=os.path.join(TOP, "crates", "priml", "out", "priml"))
+    parser.add_argument("--only", choices=sorted(KINDS), help="one kind of text alone")
+    args = parser.parse_args()
+    program = os.path.abspath(args.program)
     print("%-10s %4s %12s %12s %8s  %s" % ("text", "MB", "check ms", "sha256 ms", "ratio", "answer"))
     with tempfile.TemporaryDirectory() as folder:
-        for kind, make in (("program", program_of), ("names", names_of)):
+        for kind, make in KINDS.items():
+            if args.only and args.only != kind:
+                continue
             for megabytes in (1, 2, 4):
                 path = os.path.join(folder, "%s-%d" % (kind, megabytes))
                 with open(path, "w") as text:

@@ -1,2 +1,4 @@
+pub mod Accepted
 pub mod Endings
 pub mod Founded
+pub mod Pieces

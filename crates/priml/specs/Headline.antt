@@ -1,10 +1,13 @@
 -- What the program promises of a run: of its status, of what it read and of what it wrote. A source may tell the bytes that are left, and a sink
 -- those that it took; each has a count of faults.
-use Rattle.std.specs.Prelude.{◌≡◌, ◌≢◌, ℕ, ◌+◌, ◌≤◌, ◌<◌, List, [], ◌++◌, length, drop, Option, Some, None}
+use Rattle.std.specs.Prelude.{◌≡◌, ◌≢◌, ◌↔◌, ℕ, ◌+◌, ◌≤◌, ◌<◌, List, [], ◌++◌, length, drop, Option, Some, None}
 use Rattle.std.proofs.Common.{◌⊎◌}
 use Rattle.priml_io.specs.Ends.{Rose, Grows}
 use Rattle.priml.specs.Lines.{read_fault_line, memory_line}
-use Rattle.priml.specs.Answers.{IsCheck, Answers, input_limit}
+use Rattle.priml_syntax.specs.Tree.{Tree}
+use Rattle.source_reader.specs.Stands.{Stands}
+use Rattle.type_rules.specs.Typable.{Typable}
+use Rattle.priml.specs.Answers.{IsCheck, IsCut, Answers, input_limit}
 
 -- a source before and after a run: the bytes that are left, where it tells them, and its faults
 pub record SourceRun : Type 0 where
@@ -47,6 +50,19 @@ abbrev pub IsAnswered : List (List ℕ) → Option (List ℕ) → ℕ → List �
 IsAnswered words None status text = Unit {0}
 IsAnswered words (Some input) status text = Answers words input status text
 
+-- the program section of the input stands for a typable program
+pub record IsAccepted (input : List ℕ) : Type 0 where
+  pub program : List ℕ
+  pub cut : IsCut input program
+  pub tree : Tree
+  pub stands : Stands program tree
+  pub typable : Typable tree
+
+-- where the source told its bytes, and they are not too long, the status is 0 exactly where they are accepted
+abbrev pub AcceptsExactly : Option (List ℕ) → ℕ → Type 0
+AcceptsExactly None status = Unit {0}
+AcceptsExactly (Some input) status = length input ≤ input_limit → (status ≡ 0) ↔ IsAccepted input
+
 -- what is left of the input: nothing, or where it passes the limit all behind the first byte past it
 abbrev pub HasRead : List ℕ → Option (List ℕ) → Type 0
 HasRead input after = ((input_limit < length input) × (after ≡ Some (drop (input_limit + 1) input))) ⊎ ((length input ≤ input_limit) × (after ≡ Some []))
@@ -75,6 +91,8 @@ pub record Began (words : List (List ℕ)) (r : SourceRun) (w : SinkRun) : Type 
 pub record Ends (words : List (List ℕ)) (r : SourceRun) (w : SinkRun) (status : ℕ) : Type 0 where
   -- an answer was appended, whatever faults rose
   pub answered : IsAnswer status → (text : List ℕ) × IsAnswered words r.before status text × Appended w text
+  -- `check` accepts exactly the typable programs
+  pub accepts : IsAnswer status → IsCheck words → AcceptsExactly r.before status
   -- an answer to right words rests on the whole input, or on its first bytes up to one past the limit
   pub read : IsAnswer status → IsCheck words → IsRead r.before r.after
   -- 2 comes for wrong words alone

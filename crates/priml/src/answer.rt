@@ -1,15 +1,17 @@
-ghost use Rattle.std.specs.Prelude.{◌≡◌, IsTrue, ◌↔◌, string_bytes};
+ghost use Rattle.std.specs.Prelude.{◌≡◌};
+ghost use Rattle.priml_syntax.specs.Tree.{Tree};
 ghost use Rattle.priml_syntax.specs.Read.{read_program};
 ghost use Rattle.priml_syntax.specs.Scoped.{IsScoped};
+ghost use Rattle.type_rules.specs.Stops.{IsTypeStop};
 ghost use Rattle.priml.specs.Lines.{words_of};
-ghost use Rattle.priml.specs.Answers.{IsCheck, OnText, OnProgram};
+ghost use Rattle.priml.specs.Answers.{IsCheck, OnSections, OnText, OnProgram};
 ghost use Rattle.priml.specs.Headline.{source_run};
-ghost use Rattle.priml.specs.Reply.{ReplyIs, Replies, Says};
+ghost use Rattle.priml.specs.Reply.{ReplyIs, Replies, RepliesRead, Says};
 
-use crate::refusal::{Refusal, Reply};
-use priml_io::{ReadStop, Source, read_all};
+use crate::refusal::{Reply, input_too_long, not_built, section_refusal, source_refusal, type_refusal, words_refusal};
+use priml_io::{Command, ReadStop, Source, read_all, read_words, split};
 use priml_syntax::Program;
-use source_reader::{SourceFault, read_source};
+use source_reader::read_source;
 use std::alloc::Global;
 use type_rules::{TypeStop, check};
 
@@ -21,42 +23,47 @@ pub fn reply_to<S: Source>(alloc: Global, words: &[String], source: &mut S) -> R
     ensures reply { Replies (words_of words.now) (source_run (S.left source.old) (S.left source.new) (S.faults source.old) (S.faults source.new)) result }
     ensures unread { (IsCheck (words_of words.now) → ⊥) → source.new ≡ source.old }
 {
-    if !is_check(words) {
-        return Reply::Refused(Refusal::NotBuilt);
+    match read_words(words) {
+        Ok(command) => match command {
+            Command::Check => on_source(alloc, source),
+            _ => Reply::WrongWords(not_built()),
+        },
+        Err(fault) => Reply::WrongWords(words_refusal(fault)),
     }
+}
+
+// The reply of `check` to what the source gives.
+fn on_source<S: Source>(alloc: Global, source: &mut S) -> Reply
+    ensures { RepliesRead (source_run (S.left source.old) (S.left source.new) (S.faults source.old) (S.faults source.new)) result }
+{
     match read_all(alloc, source, INPUT_LIMIT) {
-        Ok(input) => on_text(alloc, &input),
-        Err(ReadStop::TooLong) => Reply::Refused(Refusal::InputTooLong),
+        Ok(input) => on_sections(alloc, &input),
+        Err(ReadStop::TooLong) => Reply::Refused(input_too_long()),
         Err(ReadStop::ReadFault) => Reply::ReadFault,
         Err(ReadStop::OutOfMemory) => Reply::OutOfMemory,
     }
 }
 
-/// Whether the words are the command `check`.
-pub fn is_check(words: &[String]) -> bool
-    ensures { IsTrue result ↔ IsCheck (words_of words.now) }
+// The reply of `check` to an input that is not too long.
+fn on_sections(alloc: Global, input: &[u8]) -> Reply
+    ensures { ReplyIs (OnSections input.now) result }
 {
-    match words {
-        [word] => is_word(word, b"check"),
-        _ => false,
+    match split(input) {
+        Ok(sections) => on_text(alloc, sections.program),
+        Err(fault) => Reply::Refused(section_refusal(fault)),
     }
 }
 
-// Whether the word has these bytes.
-fn is_word(word: &String, bytes: &[u8]) -> bool
-    ensures { IsTrue result ↔ (string_bytes word.now ≡ bytes.now) }
-{
-    word.as_bytes() == bytes
-}
-
-/// The reply of `check` to the text of a program.
-pub fn on_text(alloc: Global, text: &[u8]) -> Reply
+// The reply of `check` to the text of a program.
+fn on_text(alloc: Global, text: &[u8]) -> Reply
     ensures { ReplyIs (OnText text.now) result }
 {
     match read_source(alloc, text) {
         Ok(program) => on_program(alloc, program),
-        Err(SourceFault::NotBuilt) => Reply::Refused(Refusal::NoProgram),
-        Err(SourceFault::OutOfMemory) => Reply::OutOfMemory,
+        Err(fault) => match source_refusal(fault) {
+            Some(refusal) => Reply::Refused(refusal),
+            None => Reply::OutOfMemory,
+        },
     }
 }
 
@@ -67,8 +74,17 @@ fn on_program(alloc: Global, program: Program) -> Reply
 {
     match check(alloc, program) {
         Ok(_) => done(alloc, b"ok\n"),
-        Err((_, TypeStop::Fault(_))) => Reply::Refused(Refusal::IllTyped),
-        Err((_, TypeStop::OutOfMemory)) => Reply::OutOfMemory,
+        Err((_, stop)) => not_accepted(stop),
+    }
+}
+
+// The reply to a program that the checker does not accept.
+fn not_accepted(stop: TypeStop) -> Reply
+    ensures { (p : Tree) → IsTypeStop p stop → ReplyIs (OnProgram p) result }
+{
+    match stop {
+        TypeStop::Fault(fault) => Reply::Refused(type_refusal(fault)),
+        TypeStop::OutOfMemory => Reply::OutOfMemory,
     }
 }
 

@@ -2,6 +2,7 @@
 #![tactic(auto)]
 
 mod answer;
+mod line;
 mod refusal;
 mod still;
 
@@ -24,7 +25,7 @@ fn main(rt: HostRuntime) -> ExitCode {
         Err(error) if error.kind() == io::ErrorKind::OutOfMemory => Some(still::no_memory(
             &mut sink,
         )),
-        // a word that is no text is no command
+        // a word that is no text is an unknown command
         Err(_) => priml_still(
             rt.alloc(),
             &[String::new(rt.alloc())],

@@ -1,111 +1,158 @@
 -- The forms, as a reading function meets them: what was read is known by equations.
-use Rattle.std.proofs.Common.{ℕ, List, [], ◌∷◌, ◌++◌, ◌≡◌, sym, refl, ap, ◌∙◌}
-use mathlib.Core.Former.{Count}
+use Rattle.std.proofs.Common.{ℕ, List, ◌∷◌, ◌≡◌, true, false, Some, refl, ap}
 use Rattle.source_tokens.specs.declared.token.Token.{Token}
 use Rattle.source_tokens.specs.declared.token.Kind.{Kind}
 use Rattle.source_tokens.specs.declared.token.Kind.TheVariants as k
 use Rattle.source_tokens.specs.declared.token.Word.TheVariants as w
 use Rattle.source_tokens.specs.declared.token.Sign.TheVariants as s
+use Rattle.priml_syntax.specs.declared.expr.Op.{Op}
+use Rattle.priml_syntax.specs.declared.expr.Op.TheVariants as o
 use Rattle.source_grammar.specs.declared.raw.Name.{Name}
-use Rattle.source_grammar.specs.declared.raw.RawDecl.{RawDecl}
-use Rattle.source_grammar.specs.declared.raw.RawDecl.TheVariants.{Priority, Order}
-use Rattle.source_grammar.specs.declared.raw.RawAction.{RawAction}
-use Rattle.source_grammar.specs.declared.raw.RawBind.{RawBind}
-use Rattle.source_grammar.specs.declared.raw.RawBlock.{RawBlock, RawBlock', out-RawBlock, Row_of-RawBind, end_of-RawBind, more_of-RawBind, items-the_row-RawBind, items_shown-the_row-RawBind-0, RawBlock-F, roll-RawBlock, out-roll-RawBlock}
-use Rattle.source_grammar.specs.RawTree.{int, RawTerm, var, number, RawCode, block, RawBody, bind, give, RawAct, ret, spawn, sync, WrittenType, RawRoutine, RawTree}
-use Rattle.source_grammar.specs.RawRead.{read_action, read_block, read_binds, read_tail}
-use Rattle.source_grammar.specs.Lists.{body_of}
-use Rattle.source_grammar.specs.Grammar.{token, sign, word, name, IsWritten, IsExpr, IsBlock, IsBody, IsAction, IsDecls, IsMain, IsProgram}
+use Rattle.source_grammar.specs.declared.choice.Mid.{Mid}
+use Rattle.source_grammar.specs.declared.choice.Mid.TheVariants as mid
+use Rattle.source_grammar.specs.declared.choice.Prefix.{Prefix}
+use Rattle.source_grammar.specs.declared.choice.Prefix.TheVariants as prefix
+use Rattle.source_grammar.specs.declared.choice.Side.{Side}
+use Rattle.source_grammar.specs.declared.choice.Side.TheVariants as side
+use Rattle.source_grammar.specs.declared.choice.Joint.{Joint}
+use Rattle.source_grammar.specs.declared.choice.Joint.TheVariants as joint
+use Rattle.source_grammar.specs.Next.{mid_form, joint_form, prefix_word, side_word}
+use Rattle.source_grammar.specs.Joined.{mid_type, prefix_term, side_term, joint_term, IsToken}
+use Rattle.source_grammar.specs.RawTree.{RawType, unit, bool, int, thread, WrittenType, RawTerm, var, number, truth, nothing}
+use Rattle.source_grammar.specs.Grammar.{token, sign, word, name, IsType, IsWritten, IsOp, IsExpr, IsName, IsGiven, IsParameter}
 
 of_kind : (t : Token) (kind : Kind) → t.kind ≡ kind → t ≡ token t.at kind
 of_kind t kind h = ap (λ x. token t.at x) h
 
+-- Types.
+pub unit_made : (old new : List Token) (t : Token) → old ≡ t ∷ new → t.kind ≡ k.Word w.Unit → IsWritten old new (record { at = t.at; ty = unit })
+unit_made old new t e h = rw (e, of_kind t (k.Word w.Unit) h) (IsWritten.is_written (IsType.is_unit t.at))
+
+pub bool_made : (old new : List Token) (t : Token) → old ≡ t ∷ new → t.kind ≡ k.Word w.Bool → IsWritten old new (record { at = t.at; ty = bool })
+bool_made old new t e h = rw (e, of_kind t (k.Word w.Bool) h) (IsWritten.is_written (IsType.is_bool t.at))
+
+pub int_made : (old new : List Token) (t : Token) → old ≡ t ∷ new → t.kind ≡ k.Word w.Int → IsWritten old new (record { at = t.at; ty = int })
+int_made old new t e h = rw (e, of_kind t (k.Word w.Int) h) (IsWritten.is_written (IsType.is_int t.at))
+
+type_of : {ts rest : List Token} {t : WrittenType} → IsWritten ts rest t → IsType ts rest t.at t.ty
+type_of (IsWritten.is_written h) = h
+
+pub thread_made : (o1 o2 o3 o4 o5 o6 o7 : List Token) (at a b c d : ℕ) (p : Name) (t : WrittenType) (x : RawType)
+    → o1 ≡ word at w.Thread ∷ o2 → o2 ≡ sign a s.OpenBracket ∷ o3 → o3 ≡ name p ∷ o4 → o4 ≡ sign b s.CloseBracket ∷ o5 → o5 ≡ sign c s.OpenParen ∷ o6
+    → (new : List Token) → IsWritten o6 o7 t → o7 ≡ sign d s.CloseParen ∷ new → x ≡ t.ty → IsWritten o1 new (record { at = at; ty = thread p x })
+thread_made o1 o2 o3 o4 o5 o6 o7 at a b c d p t x e1 e2 e3 e4 e5 new h e6 e7 =
+    rw (e1, e2, e3, e4, e5, e7) (IsWritten.is_written (IsType.is_thread at a b c d t.at p (rw e6 at (type_of h))))
+
+star_is : (kind : Kind) → mid_form kind ≡ Some mid.Star → kind ≡ k.Sign s.Star
+star_is (k.Sign s.Star) h = refl
+star_is (k.Sign s.Plus) h = absurd (cc)
+star_is _ h = absurd (cc)
+
+plus_is : (kind : Kind) → mid_form kind ≡ Some mid.Plus → kind ≡ k.Sign s.Plus
+plus_is (k.Sign s.Plus) h = refl
+plus_is (k.Sign s.Star) h = absurd (cc)
+plus_is _ h = absurd (cc)
+
+pair_type : (m : Mid) (at c x y : ℕ) (t : Token) {ts us rest : List Token} {a b : RawType} → mid_form t.kind ≡ Some m → IsType ts (t ∷ us) x a
+    → IsType us (sign c s.CloseParen ∷ rest) y b → IsType (sign at s.OpenParen ∷ ts) rest at (mid_type m a b)
+pair_type mid.Star at c x y t e g h = IsType.is_pair at t.at c x y (rw (of_kind t (k.Sign s.Star) (star_is t.kind e)) at g) h
+pair_type mid.Plus at c x y t e g h = IsType.is_sum at t.at c x y (rw (of_kind t (k.Sign s.Plus) (plus_is t.kind e)) at g) h
+
+pub paired_made : (o1 o2 o3 o4 o5 new : List Token) (at c : ℕ) (m : Mid) (t u : WrittenType) (x : RawType) → o1 ≡ sign at s.OpenParen ∷ o2 → IsWritten o2 o3 t
+    → IsToken mid_form o3 o4 m → IsWritten o4 o5 u → o5 ≡ sign c s.CloseParen ∷ new → x ≡ mid_type m t.ty u.ty → IsWritten o1 new (record { at = at; ty = x })
+paired_made o1 o2 o3 o4 o5 new at c m t u x e1 g i h e3 e4 =
+    rw (e1, e4) (IsWritten.is_written (pair_type m at c t.at u.at i.0 i.2 (rw i.1 at (type_of g)) (rw e3 at (type_of h))))
+
+-- Expressions.
 pub var_made : (old new : List Token) (t : Token) (id : ℕ) → old ≡ t ∷ new → t.kind ≡ k.Name id → IsExpr old new (var t.at id)
 var_made old new t id e h = rw (e, of_kind t (k.Name id) h) (IsExpr.is_var (record { at = t.at; id = id }))
 
 pub number_made : (old new : List Token) (t : Token) (n : ℕ) → old ≡ t ∷ new → t.kind ≡ k.Number n → IsExpr old new (number t.at n)
 number_made old new t n e h = rw (e, of_kind t (k.Number n) h) (IsExpr.is_number t.at n)
 
-pub int_made : (old new : List Token) (at : ℕ) → old ≡ word at w.Int ∷ new → IsWritten old new (record { at = at; ty = int })
-int_made old new at e = rw e (IsWritten.is_int at)
+pub true_made : (old new : List Token) (t : Token) → old ≡ t ∷ new → t.kind ≡ k.Word w.True → IsExpr old new (truth t.at true)
+true_made old new t e h = rw (e, of_kind t (k.Word w.True) h) (IsExpr.is_true t.at)
 
--- A block that is made.
-binds_are : (n : Count) (row : Row_of-RawBind n) (body : RawBody) → read_binds row body ≡ body_of (items-the_row-RawBind n row) body
-binds_are n end_of-RawBind body = refl
-binds_are n (more_of-RawBind {n = m} name at act rest) body = ap (bind name at (read_action act)) (binds_are m rest body)
+pub false_made : (old new : List Token) (t : Token) → old ≡ t ∷ new → t.kind ≡ k.Word w.False → IsExpr old new (truth t.at false)
+false_made old new t e h = rw (e, of_kind t (k.Word w.False) h) (IsExpr.is_false t.at)
 
-pub code_is : (b : RawBlock) → read_block b ≡ block (out-RawBlock b).at (body_of (out-RawBlock b).binds.items (read_tail (out-RawBlock b).tail.form (out-RawBlock b).tail.at))
-unfolding out-RawBlock denote.Hole.Carrier.out
-code_is (RawBlock' at shape row tail) =
-    ap (block at) (binds_are _ row (read_tail tail.form tail.at) ∙ ap (λ xs. body_of xs (read_tail tail.form tail.at)) (sym (items_shown-the_row-RawBind-0 shape row)))
+pub opened_made : (old a new : List Token) (at : ℕ) (x : RawTerm) → old ≡ sign at s.OpenParen ∷ a → IsExpr (sign at s.OpenParen ∷ a) new x → IsExpr old new x
+opened_made old a new at x e h = rw e h
 
-abbrev pub Level : Type 0
-Level = RawBlock-F RawAction RawBind RawBlock
+pub nothing_made : (old new : List Token) (at close : ℕ) → old ≡ sign close s.CloseParen ∷ new → IsExpr (sign at s.OpenParen ∷ old) new (nothing at)
+nothing_made old new at close e = rw e (IsExpr.is_nothing at close)
 
-abbrev level_code : Level → RawCode
-level_code r = block r.at (body_of r.binds.items (read_tail r.tail.form r.tail.at))
+pub closed_made : (ts old new : List Token) (at close : ℕ) (x : RawTerm) → old ≡ sign close s.CloseParen ∷ new → IsExpr ts old x → IsExpr (sign at s.OpenParen ∷ ts) new x
+closed_made ts old new at close x e h = IsExpr.is_inside at close (rw e at h)
 
-pub rolled : (r : Level) → read_block (roll-RawBlock r) ≡ level_code r
-rolled r = code_is (roll-RawBlock r) ∙ ap level_code (out-roll-RawBlock r)
+comma_is : (kind : Kind) → joint_form kind ≡ Some joint.Comma → kind ≡ k.Sign s.Comma
+comma_is (k.Sign s.Comma) h = refl
+comma_is (k.Word w.And) h = absurd (cc)
+comma_is (k.Word w.Or) h = absurd (cc)
+comma_is _ h = absurd (cc)
 
-pub block_made : (old a b c new : List Token) (at close : ℕ) (r : Level) → old ≡ sign at s.OpenBrace ∷ a
-    → ((rest : List Token) (body : RawBody) → IsBody b rest body → IsBody a rest (body_of r.binds.items body))
-    → IsBody b c (read_tail r.tail.form r.tail.at) → c ≡ sign close s.CloseBrace ∷ new → r.at ≡ at → IsBlock old new (read_block (roll-RawBlock r))
-block_made old a b c new at close r p q x z e = rw (rolled r, p, e) (IsBlock.is_block at close (rw z at (q c (read_tail r.tail.form r.tail.at) x)))
+op_is : (kind : Kind) (op : Op) → joint_form kind ≡ Some (joint.Operator op) → IsOp kind op
+op_is (k.Sign s.Plus) o.Add h = IsOp.is_add
+op_is (k.Sign s.Plus) _ h = absurd (cc)
+op_is (k.Sign s.Minus) o.Sub h = IsOp.is_sub
+op_is (k.Sign s.Minus) _ h = absurd (cc)
+op_is (k.Sign s.Star) o.Mul h = IsOp.is_mul
+op_is (k.Sign s.Star) _ h = absurd (cc)
+op_is (k.Sign s.Slash) o.Div h = IsOp.is_div
+op_is (k.Sign s.Slash) _ h = absurd (cc)
+op_is (k.Sign s.Percent) o.Rem h = IsOp.is_rem
+op_is (k.Sign s.Percent) _ h = absurd (cc)
+op_is (k.Sign s.Less) o.Less h = IsOp.is_less
+op_is (k.Sign s.Less) _ h = absurd (cc)
+op_is (k.Sign s.AtMost) o.AtMost h = IsOp.is_at_most
+op_is (k.Sign s.AtMost) _ h = absurd (cc)
+op_is (k.Sign s.Equal) o.Equal h = IsOp.is_equal
+op_is (k.Sign s.Equal) _ h = absurd (cc)
+op_is (k.Word w.And) o.And h = IsOp.is_and
+op_is (k.Word w.And) _ h = absurd (cc)
+op_is (k.Word w.Or) o.Or h = IsOp.is_or
+op_is (k.Word w.Or) _ h = absurd (cc)
+op_is _ op h = absurd (cc)
 
-pub body_made : (old a new : List Token) (at close : ℕ) (b : RawBody) → old ≡ sign at s.OpenBrace ∷ a → IsBody a (sign close s.CloseBrace ∷ new) b → IsBlock old new (block at b)
-body_made old a new at close b p x = rw p (IsBlock.is_block at close x)
+join_term : (j : Joint) (at c : ℕ) (t : Token) {ts us rest : List Token} {x y : RawTerm} → joint_form t.kind ≡ Some j → IsExpr ts (t ∷ us) x → IsExpr us (sign c s.CloseParen ∷ rest) y
+    → IsExpr (sign at s.OpenParen ∷ ts) rest (joint_term j at x y)
+join_term joint.Comma at c t e g h = IsExpr.is_both at t.at c (rw (of_kind t (k.Sign s.Comma) (comma_is t.kind e)) at g) h
+join_term (joint.Operator op) at c t e g h = IsExpr.is_binary at t.at c t.kind op g (op_is t.kind op e) h
 
-pub give_made : (old a new : List Token) (at : ℕ) (e : RawTerm) → old ≡ word at w.Ret ∷ a → IsExpr a new e → IsBody old new (give at e)
-give_made old a new at e p x = rw p (IsBody.is_give at x)
+pub joined_made : (ts o1 o2 o3 new : List Token) (at c : ℕ) (j : Joint) (x y z : RawTerm) → IsToken joint_form o1 o2 j → IsExpr o2 o3 y → o3 ≡ sign c s.CloseParen ∷ new
+    → z ≡ joint_term j at x y → IsExpr ts o1 x → IsExpr (sign at s.OpenParen ∷ ts) new z
+joined_made ts o1 o2 o3 new at c j x y z i g e f h = rw f (join_term j at c i.0 i.2 (rw i.1 at h) (rw e at g))
 
-pub bind_made : (old a b c new rest : List Token) (n : Name) (arrow at end : ℕ) (act : RawAct) (body : RawBody) → old ≡ name n ∷ a
-    → a ≡ sign arrow s.Arrow ∷ b → IsAction b c at act → c ≡ sign end s.Semicolon ∷ new → IsBody new rest body → IsBody old rest (bind n at act body)
-bind_made old a b c new rest n arrow at end act body p q x y h = rw (p, q) (IsBody.is_bind n arrow at end (rw y at x) h)
+applied_term : (p : Prefix) (at a c : ℕ) {ts rest : List Token} {x : RawTerm} → IsExpr ts (sign c s.CloseParen ∷ rest) x
+    → IsExpr (word at (prefix_word p) ∷ sign a s.OpenParen ∷ ts) rest (prefix_term p at x)
+applied_term prefix.First at a c h = IsExpr.is_first at a c h
+applied_term prefix.Second at a c h = IsExpr.is_second at a c h
+applied_term prefix.Negated at a c h = IsExpr.is_negated at a c h
 
-pub ret_made : (old a new : List Token) (at : ℕ) (e : RawTerm) → old ≡ word at w.Ret ∷ a → IsExpr a new e → IsAction old new at (ret e)
-ret_made old a new at e p x = rw p (IsAction.is_ret at x)
+pub applied_made : (o1 o2 o3 o4 new : List Token) (at a c : ℕ) (p : Prefix) (x z : RawTerm) → o1 ≡ word at (prefix_word p) ∷ o2 → o2 ≡ sign a s.OpenParen ∷ o3
+    → IsExpr o3 o4 x → o4 ≡ sign c s.CloseParen ∷ new → z ≡ prefix_term p at x → IsExpr o1 new z
+applied_made o1 o2 o3 o4 new at a c p x z e1 e2 h e3 e4 = rw (e1, e2, e4) (applied_term p at a c (rw e3 at h))
 
-pub sync_made : (old a new : List Token) (at : ℕ) (h : Name) → old ≡ word at w.Sync ∷ a → a ≡ name h ∷ new → IsAction old new at (sync h)
-sync_made old a new at h p x = rw (p, x) (IsAction.is_sync at h)
+injected_term : (d : Side) (at a b c e : ℕ) {ts us rest : List Token} {t : WrittenType} {x : RawTerm} → IsWritten ts (sign b s.CloseBracket ∷ sign c s.OpenParen ∷ us) t
+    → IsExpr us (sign e s.CloseParen ∷ rest) x → IsExpr (word at (side_word d) ∷ sign a s.OpenBracket ∷ ts) rest (side_term d at t x)
+injected_term side.Left at a b c e t h = IsExpr.is_left at a b c e t h
+injected_term side.Right at a b c e t h = IsExpr.is_right at a b c e t h
 
-pub spawn_made : (old a b c d new : List Token) (at from close : ℕ) (p : Name) (body : RawCode) → old ≡ word at w.Spawn ∷ a
-    → a ≡ sign from s.OpenBracket ∷ b → b ≡ name p ∷ c → c ≡ sign close s.CloseBracket ∷ d → IsBlock d new body → IsAction old new at (spawn p body)
-spawn_made old a b c d new at from close p body e f g h x = rw (e, f, g, h) (IsAction.is_spawn at from close p x)
+pub injected_made : (o1 o2 o3 o4 o5 o6 o7 new : List Token) (at a b c e : ℕ) (d : Side) (t : WrittenType) (x z : RawTerm)
+    → o1 ≡ word at (side_word d) ∷ o2 → o2 ≡ sign a s.OpenBracket ∷ o3 → IsWritten o3 o4 t → o4 ≡ sign b s.CloseBracket ∷ o5 → o5 ≡ sign c s.OpenParen ∷ o6
+    → IsExpr o6 o7 x → o7 ≡ sign e s.CloseParen ∷ new → z ≡ side_term d at t x → IsExpr o1 new z
+injected_made o1 o2 o3 o4 o5 o6 o7 new at a b c e d t x z e1 e2 g e3 e4 h e5 e6 =
+    rw (e1, e2, e6) (injected_term d at a b c e (rw (e3, e4) at g) (rw e5 at h))
 
-body_push : (bs : List RawBind) (b : RawBind) (body : RawBody) → body_of (bs ++ b ∷ []) body ≡ body_of bs (bind b.name b.at (read_action b.action) body)
-body_push [] b body = refl
-body_push (x ∷ xs) b body = ap (bind x.name x.at (read_action x.action)) (body_push xs b body)
+-- Parts of lists.
+pub name_made : (old new : List Token) (n : Name) → old ≡ name n ∷ new → IsName old new n
+name_made old new n e = rw e (IsName.is_name n)
 
-pub more_made : (start now next rest : List Token) (bs more : List RawBind) (b : RawBind) (body : RawBody)
-    → ((rest : List Token) (body : RawBody) → IsBody now rest body → IsBody start rest (body_of bs body))
-    → more ≡ bs ++ b ∷ []
-    → ((rest : List Token) (body : RawBody) → IsBody next rest body → IsBody now rest (body_of (b ∷ []) body))
-    → IsBody next rest body → IsBody start rest (body_of more body)
-more_made start now next rest bs more b body f e g h = rw (e, body_push bs b body) (f rest _ (g rest body h))
+pub given_made : (old a b new : List Token) (at : ℕ) (p q : Name) → old ≡ name p ∷ a → a ≡ sign at s.AtMost ∷ b → b ≡ name q ∷ new → IsGiven old new (p, q)
+given_made old a b new at p q e f g = rw (e, f, g) (IsGiven.is_given p q at)
 
--- Declarations and the main procedure.
-pub priority_made : (old a b new : List Token) (at end : ℕ) (n : Name) → old ≡ word at w.Priority ∷ a → a ≡ name n ∷ b → b ≡ sign end s.Semicolon ∷ new → IsDecls old new (Priority n ∷ [])
-priority_made old a b new at end n p q r = rw (p, q, r) (IsDecls.is_priority at end n IsDecls.no_more)
+pub parameter_made : (old a b new : List Token) (colon : ℕ) (n : Name) (t : WrittenType) → old ≡ name n ∷ a → a ≡ sign colon s.Colon ∷ b → IsWritten b new t
+    → IsParameter old new (record { name = n; ty = t })
+parameter_made old a b new colon n t e f h = rw (e, f) (IsParameter.is_parameter n colon h)
 
-pub order_made : (old a b c d new : List Token) (at less end : ℕ) (m n : Name) → old ≡ word at w.Order ∷ a → a ≡ name m ∷ b
-    → b ≡ sign less s.Less ∷ c → c ≡ name n ∷ d → d ≡ sign end s.Semicolon ∷ new → IsDecls old new (Order at m n ∷ [])
-order_made old a b c d new at less end m n p q r x y = rw (p, q, r, x, y) (IsDecls.is_order at less end m n IsDecls.no_more)
-
-pub decls_join : {old mid new : List Token} {ds es : List RawDecl} → IsDecls old mid ds → IsDecls mid new es → IsDecls old new (ds ++ es)
-decls_join IsDecls.no_more h = h
-decls_join (IsDecls.is_priority at end n d) h = IsDecls.is_priority at end n (decls_join d h)
-decls_join (IsDecls.is_order at less end m n d) h = IsDecls.is_order at less end m n (decls_join d h)
-
-pub main_made : (old a b c d e new : List Token) (at by colon : ℕ) (own : Name) (ty : WrittenType) (body : RawCode) → old ≡ word at w.Main ∷ a
-    → a ≡ word by w.At ∷ b → b ≡ name own ∷ c → c ≡ sign colon s.Colon ∷ d → IsWritten d e ty → IsBlock e new body
-    → IsMain old new (record { at = at; own = own; result = ty; body = body })
-main_made old a b c d e new at by colon own ty body p q r x t y = rw (p, q, r, x) (IsMain.is_main at by colon own t y)
-
-pub more_declared : {old new : List Token} {d : RawDecl} {p : RawTree} → IsDecls old new (d ∷ []) → IsProgram new p → IsProgram old (record { decls = d ∷ p.decls; main = p.main })
-more_declared h (IsProgram.is_program ds m) = IsProgram.is_program (decls_join h ds) m
-
-pub program_made : (old mid new : List Token) (ds : List RawDecl) (m : RawRoutine) → IsDecls old mid ds → IsMain mid new m → new ≡ [] → IsProgram old (record { decls = ds; main = m })
-program_made old mid new ds m d x e = IsProgram.is_program d (rw e at x)
-
-pub ruleset forms = (var_made, number_made, int_made, give_made, bind_made, ret_made, sync_made, spawn_made, priority_made)
+pub ruleset forms = (given_made, parameter_made, unit_made, bool_made, int_made, var_made, number_made, true_made, false_made, opened_made, nothing_made, closed_made)

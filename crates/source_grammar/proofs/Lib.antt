@@ -1,6 +1,12 @@
+pub mod BlockForms
+pub mod BlockSteps
+pub mod CommaLists
 pub mod Forms
+pub mod HeadForms
+pub mod HeadSteps
 pub mod Moves
 pub mod Sound
+pub mod SoundBlocks
 pub mod Steps
 pub mod Taken
 pub mod Unexpected

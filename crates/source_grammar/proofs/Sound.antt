@@ -1,23 +1,26 @@
--- What the machine takes, the grammar takes.
+-- What the machine takes, the grammar takes: types, expressions and lists.
 use Rattle.std.proofs.Common.{ℕ, zero, suc, ◌+◌, ◌≤◌, ◌<◌, List, [], ◌∷◌, ◌≡◌, Some, None, Option, Bool, true, false, length, sym, refl, ◌∙◌, arith}
 use Rattle.source_tokens.specs.declared.token.Token.{Token}
 use Rattle.source_tokens.specs.declared.token.Kind.{Kind}
 use Rattle.source_tokens.specs.declared.token.Kind.TheVariants as k
 use Rattle.source_tokens.specs.declared.token.Word.TheVariants as w
 use Rattle.source_tokens.specs.declared.token.Sign.TheVariants as s
-use Rattle.source_grammar.specs.declared.cursor.DeclarationForm.{DeclarationForm}
-use Rattle.source_grammar.specs.declared.cursor.DeclarationForm.TheVariants as decl
-use Rattle.source_grammar.specs.declared.cursor.ActionForm.{ActionForm}
-use Rattle.source_grammar.specs.declared.cursor.ActionForm.TheVariants as form
-use Rattle.source_grammar.specs.declared.raw.RawDecl.{RawDecl}
-use Rattle.source_grammar.specs.declared.raw.RawDecl.TheVariants as which
-use Rattle.source_grammar.specs.Next.{is_at_name, declaration_form, declaration_symbol, action_form}
-use Rattle.source_grammar.specs.RawTree.{int, var, number, block, RawBody, bind, give, RawAct, ret, spawn, sync, RawTree}
-use Rattle.source_grammar.specs.Grammar.{token, sign, IsWritten, IsExpr, IsBlock, IsBody, IsAction, IsDecls, IsMain, IsProgram}
-use Rattle.source_grammar.specs.Machine.{Symbol, halt, AName, AWord, ASign, Program, Main, Ty, Block, Binds, Bind, Tail, Action, Returned, Spawn, Sync, Expr}
-use Rattle.source_grammar.proofs.Forms.{int_made, body_made, give_made, bind_made, ret_made, sync_made, spawn_made, priority_made, order_made, more_declared, main_made, program_made}
-use Rattle.source_grammar.proofs.Steps.{halt-priority, halt-order, halt-main, halt-ty, halt-block, halt-bind, halt-tail, halt-returned, halt-spawn, halt-sync, action-returned, action-spawn, action-sync, action-none, binds-name, binds-tail, program-declaration, program-main}
-use Rattle.source_grammar.proofs.Taken.{word_taken, sign_taken, name_taken, not_at_end, nothing_left, fewer}
+use Rattle.source_grammar.specs.declared.choice.TyForm.{TyForm}
+use Rattle.source_grammar.specs.declared.choice.TyForm.TheVariants as ty
+use Rattle.source_grammar.specs.declared.choice.Prefix.{Prefix}
+use Rattle.source_grammar.specs.declared.choice.Side.{Side}
+use Rattle.source_grammar.specs.declared.choice.ExprForm.{ExprForm}
+use Rattle.source_grammar.specs.declared.choice.ExprForm.TheVariants as expr
+use Rattle.source_grammar.specs.Next.{is_at, form_at, is_sign, is_end, ty_form, mid_form, expr_form, joint_form, prefix_word, side_word}
+use Rattle.source_grammar.specs.Joined.{mid_type, prefix_term, side_term, joint_term}
+use Rattle.source_grammar.specs.RawTree.{unit, bool, int, thread, RawTerm, var, number, truth, nothing}
+use Rattle.source_grammar.specs.Grammar.{token, sign, IsSeparated, IsListed, IsType, IsWritten, IsExpr}
+use Rattle.source_grammar.specs.Ends.{BeginsOtherwise}
+use Rattle.source_grammar.specs.Machine.{Symbol, End, halt, AName, ASign, AtEnd, More, Separated, Listed, Ty, SimpleTy, ThreadTy, PairedTy, TyMid, Expr, Leaf, Opened, Inside, Behind, AJoint, Applied, Injected}
+use Rattle.source_grammar.proofs.Forms.{thread_made, paired_made, opened_made, nothing_made, closed_made, joined_made, applied_made, injected_made}
+use Rattle.source_grammar.proofs.Steps.{halt-thread_ty, halt-paired_ty, halt-opened, halt-bracketed, halt-joined, halt-applied, halt-injected, ty-simple, ty-thread, ty-paired, ty-none, expr-leaf, expr-opened, expr-applied, expr-injected, expr-none, inside-close, inside-more, behind-close, behind-more}
+use Rattle.source_grammar.proofs.CommaLists.{halt-separated, halt-behind_comma, listed-end, listed-more, more-comma, more-end}
+use Rattle.source_grammar.proofs.Taken.{word_taken, sign_taken, name_taken, form_taken, not_at_end}
 
 -- The tokens begin with a tree of a form, and the symbols behind it take the rest.
 pub record Found {A : Type 0} (Is : List Token → A → Type 0) (xs : List Symbol) (ts : List Token) : Type 0 where
@@ -27,173 +30,202 @@ pub record Found {A : Type 0} (Is : List Token → A → Type 0) (xs : List Symb
   pub shorter : length rest < length ts
   pub takes : halt xs rest ≡ None
 
-abbrev IsAct : List Token → List Token → ℕ × RawAct → Type 0
-IsAct ts rest a = IsAction ts rest a.0 a.1
+-- Lists.
+abbrev pub ItemFound : {A : Type 0} → (List Token → List Token → A → Type 0) → Symbol → Type 0
+ItemFound {A} Is y = (xs : List Symbol) (ts : List Token) → halt (y ∷ xs) ts ≡ None → Found (Is ts) xs ts
 
--- the rest of a block, with its closing brace
-abbrev IsRest : List Token → List Token → RawBody → Type 0
-IsRest ts rest b = (close : ℕ) × IsBody ts (sign close s.CloseBrace ∷ rest) b
+pub record FoundListed {A : Type 0} (Is : List Token → List A → Type 0) (xs : List Symbol) (ts : List Token) : Type 0 where
+  pub trees : List A
+  pub rest : List Token
+  pub is : Is rest trees
+  pub shorter : length rest ≤ length ts
+  pub takes : halt xs rest ≡ None
 
-ty_found : (xs : List Symbol) (ts : List Token) → halt (Ty ∷ xs) ts ≡ None → Found (IsWritten ts) xs ts
-ty_found xs ts h =
-    let p = word_taken w.Int xs ts (sym (halt-ty xs ts) ∙ h) in
-    record { tree = record { at = p.at; ty = int }; rest = p.rest; is = int_made ts p.rest p.at p.is; shorter = fewer p.is; takes = p.takes }
+separated_made : {A : Type 0} {Is : List Token → List Token → A → Type 0} (o1 o2 o3 new : List Token) (comma : ℕ) (x : A) (xs : List A)
+    → Is o1 o2 x → o2 ≡ sign comma s.Comma ∷ o3 → IsSeparated Is o3 new xs → IsSeparated Is o1 new (x ∷ xs)
+separated_made o1 o2 o3 new comma x xs h e hs = IsSeparated.more comma (rw e at h) hs
 
-expr_here : (xs : List Symbol) (at : ℕ) (kind : Kind) (ts : List Token) → halt (Expr ∷ xs) (token at kind ∷ ts) ≡ None
-    → Found (IsExpr (token at kind ∷ ts)) xs (token at kind ∷ ts)
+module _ {A : Type 0} (Is : List Token → List Token → A → Type 0) (y : Symbol) (e : End) (item : ItemFound Is y) where
+  more_step : (xs : List Symbol) (ts : List Token)
+      → ((us : List Token) → length us < length ts → halt (Separated y e ∷ xs) us ≡ None → FoundListed (IsSeparated Is us) (AtEnd e ∷ xs) us)
+      → (x : Found (Is ts) (More y e ∷ xs) ts) → (b : Bool) → is_at (is_sign s.Comma) x.rest ≡ b → FoundListed (IsSeparated Is ts) (AtEnd e ∷ xs) ts
+  more_step xs ts below x false h =
+      record { trees = x.tree ∷ []; rest = x.rest; is = IsSeparated.one x.is; shorter = omega (arith, x.shorter); takes = sym (more-end y e xs x.rest h) ∙ x.takes }
+  more_step xs ts below x true h =
+      let c = sign_taken s.Comma (y ∷ More y e ∷ xs) x.rest (sym (halt-behind_comma y (More y e ∷ xs) x.rest) ∙ sym (more-comma y e xs x.rest h) ∙ x.takes) in
+      let l = below c.rest (omega (arith, x.shorter, c.shorter)) (halt-separated y e xs c.rest ∙ c.takes) in
+      record { trees = x.tree ∷ l.trees; rest = l.rest; is = separated_made ts x.rest c.rest l.rest c.at x.tree l.trees x.is c.is l.is; shorter = omega (arith, x.shorter, c.shorter, l.shorter); takes = l.takes }
+
+  separated_below : (n : ℕ) (xs : List Symbol) (ts : List Token) → length ts < n → halt (Separated y e ∷ xs) ts ≡ None → FoundListed (IsSeparated Is ts) (AtEnd e ∷ xs) ts
+  separated_below zero xs ts l h = absurd (omega arith)
+  separated_below (suc n) xs ts l h =
+      let x = item (More y e ∷ xs) ts (sym (halt-separated y e xs ts) ∙ h) in
+      more_step xs ts (λ us i. separated_below n xs us (omega (arith, i))) x (is_at (is_sign s.Comma) x.rest) refl
+
+  pub separated_found : (xs : List Symbol) (ts : List Token) → halt (Separated y e ∷ xs) ts ≡ None → FoundListed (IsSeparated Is ts) (AtEnd e ∷ xs) ts
+  separated_found xs ts h = separated_below (length ts + 1) xs ts (omega arith) h
+
+  listed_by : BeginsOtherwise y → (xs : List Symbol) (ts : List Token) → halt (Listed y e ∷ xs) ts ≡ None → (b : Bool) → is_at is_end ts ≡ b → FoundListed (IsListed Is ts) (AtEnd e ∷ xs) ts
+  listed_by other xs ts h true i = record { trees = []; rest = ts; is = IsListed.none; shorter = omega arith; takes = sym (listed-end y e xs ts other i) ∙ h }
+  listed_by other xs ts h false i =
+      let l = separated_found xs ts (sym (listed-more y e xs ts i) ∙ h) in
+      record { trees = l.trees; rest = l.rest; is = IsListed.some l.is; shorter = l.shorter; takes = l.takes }
+
+  pub listed_found : BeginsOtherwise y → (xs : List Symbol) (ts : List Token) → halt (Listed y e ∷ xs) ts ≡ None → FoundListed (IsListed Is ts) (AtEnd e ∷ xs) ts
+  listed_found other xs ts h = listed_by other xs ts h (is_at is_end ts) refl
+
+-- Types.
+simple_here : (xs : List Symbol) (at : ℕ) (kind : Kind) (ts : List Token) → halt (SimpleTy ∷ xs) (token at kind ∷ ts) ≡ None → Found (IsWritten (token at kind ∷ ts)) xs (token at kind ∷ ts)
 unfolding halt
-expr_here xs at (k.Name n) ts h = record { tree = var at n; rest = ts; is = IsExpr.is_var (record { at = at; id = n }); shorter = omega arith; takes = h }
-expr_here xs at (k.Number n) ts h = record { tree = number at n; rest = ts; is = IsExpr.is_number at n; shorter = omega arith; takes = h }
-expr_here xs at (k.Word x) ts h = absurd (cc)
-expr_here xs at (k.Sign x) ts h = absurd (cc)
+simple_here xs at (k.Word w.Unit) ts h = record { tree = record { at = at; ty = unit }; rest = ts; is = IsWritten.is_written (IsType.is_unit at); shorter = omega arith; takes = h }
+simple_here xs at (k.Word w.Bool) ts h = record { tree = record { at = at; ty = bool }; rest = ts; is = IsWritten.is_written (IsType.is_bool at); shorter = omega arith; takes = h }
+simple_here xs at (k.Word w.Int) ts h = record { tree = record { at = at; ty = int }; rest = ts; is = IsWritten.is_written (IsType.is_int at); shorter = omega arith; takes = h }
+simple_here xs at _ ts h = absurd (cc)
 
-expr_found : (xs : List Symbol) (ts : List Token) → halt (Expr ∷ xs) ts ≡ None → Found (IsExpr ts) xs ts
-expr_found xs [] h = not_at_end Expr xs h
-expr_found xs (t ∷ ts) h = expr_here xs t.at t.kind ts h
+simple_found : (xs : List Symbol) (ts : List Token) → halt (SimpleTy ∷ xs) ts ≡ None → Found (IsWritten ts) xs ts
+simple_found xs [] h = not_at_end SimpleTy xs h
+simple_found xs (t ∷ ts) h = simple_here xs t.at t.kind ts h
 
-returned_found : (xs : List Symbol) (ts : List Token) → halt (Returned ∷ xs) ts ≡ None → Found (IsAct ts) xs ts
-returned_found xs ts h =
-    let p = word_taken w.Ret (Expr ∷ xs) ts (sym (halt-returned xs ts) ∙ h) in
-    let e = expr_found xs p.rest p.takes in
-    record { tree = (p.at, ret e.tree); rest = e.rest; is = ret_made ts p.rest e.rest p.at e.tree p.is e.is; shorter = omega (arith, fewer p.is, e.shorter); takes = e.takes }
+abbrev TyBelow : ℕ → Type 0
+TyBelow n = (xs : List Symbol) (ts : List Token) → length ts < n → halt (Ty ∷ xs) ts ≡ None → Found (IsWritten ts) xs ts
 
-sync_found : (xs : List Symbol) (ts : List Token) → halt (Sync ∷ xs) ts ≡ None → Found (IsAct ts) xs ts
-sync_found xs ts h =
-    let p = word_taken w.Sync (AName ∷ xs) ts (sym (halt-sync xs ts) ∙ h) in
-    let n = name_taken xs p.rest p.takes in
-    record { tree = (p.at, sync n.it); rest = n.rest; is = sync_made ts p.rest n.rest p.at n.it p.is n.is; shorter = omega (arith, fewer p.is, fewer n.is); takes = n.takes }
-
-tail_found : (xs : List Symbol) (ts : List Token) → halt (Tail ∷ xs) ts ≡ None → Found (IsBody ts) xs ts
-tail_found xs ts h =
-    let p = word_taken w.Ret (Expr ∷ xs) ts (sym (halt-tail xs ts) ∙ h) in
-    let e = expr_found xs p.rest p.takes in
-    record { tree = give p.at e.tree; rest = e.rest; is = give_made ts p.rest e.rest p.at e.tree p.is e.is; shorter = omega (arith, fewer p.is, e.shorter); takes = e.takes }
-
-end_found : (xs : List Symbol) (ts : List Token) → halt (Tail ∷ ASign s.CloseBrace ∷ xs) ts ≡ None → Found (IsRest ts) xs ts
-end_found xs ts h =
-    let e = tail_found (ASign s.CloseBrace ∷ xs) ts h in
-    let q = sign_taken s.CloseBrace xs e.rest e.takes in
-    record { tree = e.tree; rest = q.rest; is = (q.at, rw q.is at e.is); shorter = omega (arith, e.shorter, fewer q.is); takes = q.takes }
-
--- The forms that hold blocks, for fewer than n tokens.
-record Sound (n : ℕ) : Type 0 where
-  block_found : (xs : List Symbol) (ts : List Token) → length ts < n → halt (Block ∷ xs) ts ≡ None → Found (IsBlock ts) xs ts
-  rest_found : (xs : List Symbol) (ts : List Token) → length ts < n → halt (Binds ∷ xs) ts ≡ None → Found (IsRest ts) xs ts
-  action_found : (xs : List Symbol) (ts : List Token) → length ts < n → halt (Action ∷ xs) ts ≡ None → Found (IsAct ts) xs ts
-
-module _ (n : ℕ) (below : Sound n) where
-  block_step : (xs : List Symbol) (ts : List Token) → length ts ≤ n → halt (Block ∷ xs) ts ≡ None → Found (IsBlock ts) xs ts
-  block_step xs ts l h =
-      let p = sign_taken s.OpenBrace (Binds ∷ xs) ts (sym (halt-block xs ts) ∙ h) in
-      let b = below.rest_found xs p.rest (omega (arith, fewer p.is)) p.takes in
-      record { tree = block p.at b.tree; rest = b.rest; is = body_made ts p.rest b.rest p.at b.is.0 b.tree p.is b.is.1; shorter = omega (arith, fewer p.is, b.shorter); takes = b.takes }
-
-  more_found : (xs : List Symbol) (ts : List Token) → length ts ≤ n → halt (Bind ∷ Binds ∷ xs) ts ≡ None → Found (IsRest ts) xs ts
-  more_found xs ts l h =
-      let p = name_taken (ASign s.Arrow ∷ Action ∷ ASign s.Semicolon ∷ Binds ∷ xs) ts (sym (halt-bind (Binds ∷ xs) ts) ∙ h) in
-      let q = sign_taken s.Arrow (Action ∷ ASign s.Semicolon ∷ Binds ∷ xs) p.rest p.takes in
-      let a = below.action_found (ASign s.Semicolon ∷ Binds ∷ xs) q.rest (omega (arith, fewer p.is, fewer q.is)) q.takes in
-      let z = sign_taken s.Semicolon (Binds ∷ xs) a.rest a.takes in
-      let b = below.rest_found xs z.rest (omega (arith, fewer p.is, fewer q.is, a.shorter, fewer z.is)) z.takes in
+module _ (n : ℕ) (below : TyBelow n) where
+  thread_found : (xs : List Symbol) (ts : List Token) → length ts ≤ n → halt (ThreadTy ∷ xs) ts ≡ None → Found (IsWritten ts) xs ts
+  thread_found xs ts l h =
+      let p = word_taken w.Thread (ASign s.OpenBracket ∷ AName ∷ ASign s.CloseBracket ∷ ASign s.OpenParen ∷ Ty ∷ ASign s.CloseParen ∷ xs) ts (sym (halt-thread_ty xs ts) ∙ h) in
+      let a = sign_taken s.OpenBracket (AName ∷ ASign s.CloseBracket ∷ ASign s.OpenParen ∷ Ty ∷ ASign s.CloseParen ∷ xs) p.rest p.takes in
+      let q = name_taken (ASign s.CloseBracket ∷ ASign s.OpenParen ∷ Ty ∷ ASign s.CloseParen ∷ xs) a.rest a.takes in
+      let b = sign_taken s.CloseBracket (ASign s.OpenParen ∷ Ty ∷ ASign s.CloseParen ∷ xs) q.rest q.takes in
+      let c = sign_taken s.OpenParen (Ty ∷ ASign s.CloseParen ∷ xs) b.rest b.takes in
+      let t = below (ASign s.CloseParen ∷ xs) c.rest (omega (arith, p.shorter, a.shorter, q.shorter, b.shorter, c.shorter)) c.takes in
+      let d = sign_taken s.CloseParen xs t.rest t.takes in
       record {
-        tree = bind p.it a.tree.0 a.tree.1 b.tree;
-        rest = b.rest;
-        is = (b.is.0, bind_made ts p.rest q.rest a.rest z.rest (sign b.is.0 s.CloseBrace ∷ b.rest) p.it q.at a.tree.0 z.at a.tree.1 b.tree p.is q.is a.is z.is b.is.1);
-        shorter = omega (arith, fewer p.is, fewer q.is, a.shorter, fewer z.is, b.shorter);
-        takes = b.takes;
+        tree = record { at = p.at; ty = thread q.it t.tree.ty };
+        rest = d.rest;
+        is = thread_made ts p.rest a.rest q.rest b.rest c.rest t.rest p.at a.at b.at c.at d.at q.it t.tree t.tree.ty p.is a.is q.is b.is c.is d.rest t.is d.is (refl {a = t.tree.ty});
+        shorter = omega (arith, p.shorter, a.shorter, q.shorter, b.shorter, c.shorter, t.shorter, d.shorter);
+        takes = d.takes;
       }
 
-  rest_step : (xs : List Symbol) (ts : List Token) → length ts ≤ n → halt (Binds ∷ xs) ts ≡ None → (b : Bool) → is_at_name ts ≡ b → Found (IsRest ts) xs ts
-  rest_step xs ts l h false e = end_found xs ts (sym (binds-tail xs ts e) ∙ h)
-  rest_step xs ts l h true e = more_found xs ts l (sym (binds-name xs ts e) ∙ h)
-
-  spawn_found : (xs : List Symbol) (ts : List Token) → length ts ≤ n → halt (Spawn ∷ xs) ts ≡ None → Found (IsAct ts) xs ts
-  spawn_found xs ts l h =
-      let p = word_taken w.Spawn (ASign s.OpenBracket ∷ AName ∷ ASign s.CloseBracket ∷ Block ∷ xs) ts (sym (halt-spawn xs ts) ∙ h) in
-      let a = sign_taken s.OpenBracket (AName ∷ ASign s.CloseBracket ∷ Block ∷ xs) p.rest p.takes in
-      let q = name_taken (ASign s.CloseBracket ∷ Block ∷ xs) a.rest a.takes in
-      let z = sign_taken s.CloseBracket (Block ∷ xs) q.rest q.takes in
-      let b = below.block_found xs z.rest (omega (arith, fewer p.is, fewer a.is, fewer q.is, fewer z.is)) z.takes in
+  paired_found : (xs : List Symbol) (ts : List Token) → length ts ≤ n → halt (PairedTy ∷ xs) ts ≡ None → Found (IsWritten ts) xs ts
+  paired_found xs ts l h =
+      let p = sign_taken s.OpenParen (Ty ∷ TyMid ∷ Ty ∷ ASign s.CloseParen ∷ xs) ts (sym (halt-paired_ty xs ts) ∙ h) in
+      let t = below (TyMid ∷ Ty ∷ ASign s.CloseParen ∷ xs) p.rest (omega (arith, p.shorter)) p.takes in
+      let m = form_taken TyMid mid_form (Ty ∷ ASign s.CloseParen ∷ xs) t.rest (λ kind. refl) t.takes in
+      let u = below (ASign s.CloseParen ∷ xs) m.rest (omega (arith, p.shorter, t.shorter, m.shorter)) m.takes in
+      let d = sign_taken s.CloseParen xs u.rest u.takes in
       record {
-        tree = (p.at, spawn q.it b.tree);
-        rest = b.rest;
-        is = spawn_made ts p.rest a.rest q.rest z.rest b.rest p.at a.at z.at q.it b.tree p.is a.is q.is z.is b.is;
-        shorter = omega (arith, fewer p.is, fewer a.is, fewer q.is, fewer z.is, b.shorter);
-        takes = b.takes;
+        tree = record { at = p.at; ty = mid_type m.it t.tree.ty u.tree.ty };
+        rest = d.rest;
+        is = paired_made ts p.rest t.rest m.rest u.rest d.rest p.at d.at m.it t.tree u.tree (mid_type m.it t.tree.ty u.tree.ty) p.is t.is m.is u.is d.is (refl {a = mid_type m.it t.tree.ty u.tree.ty});
+        shorter = omega (arith, p.shorter, t.shorter, m.shorter, u.shorter, d.shorter);
+        takes = d.takes;
       }
 
-  action_step : (xs : List Symbol) (ts : List Token) → length ts ≤ n → halt (Action ∷ xs) ts ≡ None → (o : Option ActionForm) → action_form ts ≡ o → Found (IsAct ts) xs ts
-  action_step xs ts l h None e = absurd (let no : Some ts ≡ None = sym (action-none xs ts e) ∙ h in cc)
-  action_step xs ts l h (Some form.Returned) e = returned_found xs ts (sym (action-returned xs ts e) ∙ h)
-  action_step xs ts l h (Some form.Spawn) e = spawn_found xs ts l (sym (action-spawn xs ts e) ∙ h)
-  action_step xs ts l h (Some form.Sync) e = sync_found xs ts (sym (action-sync xs ts e) ∙ h)
+  ty_step : (xs : List Symbol) (ts : List Token) → length ts ≤ n → halt (Ty ∷ xs) ts ≡ None → (o : Option TyForm) → form_at ty_form ts ≡ o → Found (IsWritten ts) xs ts
+  ty_step xs ts l h None e = absurd (let f : Some ts ≡ None = sym (ty-none xs ts e) ∙ h in cc)
+  ty_step xs ts l h (Some ty.Simple) e = simple_found xs ts (sym (ty-simple xs ts e) ∙ h)
+  ty_step xs ts l h (Some ty.Thread) e = thread_found xs ts l (sym (ty-thread xs ts e) ∙ h)
+  ty_step xs ts l h (Some ty.Paired) e = paired_found xs ts l (sym (ty-paired xs ts e) ∙ h)
 
-sound : (n : ℕ) → Sound n
-sound zero = record {
-  block_found = λ xs ts l h. absurd (omega arith);
-  rest_found = λ xs ts l h. absurd (omega arith);
-  action_found = λ xs ts l h. absurd (omega arith);
-}
-sound (suc n) = record {
-  block_found = λ xs ts l h. block_step n (sound n) xs ts (omega arith) h;
-  rest_found = λ xs ts l h. rest_step n (sound n) xs ts (omega arith) h (is_at_name ts) refl;
-  action_found = λ xs ts l h. action_step n (sound n) xs ts (omega arith) h (action_form ts) refl;
-}
+ty_below : (n : ℕ) → TyBelow n
+ty_below zero xs ts l h = absurd (omega arith)
+ty_below (suc n) xs ts l h = ty_step n (ty_below n) xs ts (omega arith) h (form_at ty_form ts) refl
 
-main_found : (xs : List Symbol) (ts : List Token) → halt (Main ∷ xs) ts ≡ None → Found (IsMain ts) xs ts
-main_found xs ts h =
-    let p = word_taken w.Main (AWord w.At ∷ AName ∷ ASign s.Colon ∷ Ty ∷ Block ∷ xs) ts (sym (halt-main xs ts) ∙ h) in
-    let a = word_taken w.At (AName ∷ ASign s.Colon ∷ Ty ∷ Block ∷ xs) p.rest p.takes in
-    let q = name_taken (ASign s.Colon ∷ Ty ∷ Block ∷ xs) a.rest a.takes in
-    let z = sign_taken s.Colon (Ty ∷ Block ∷ xs) q.rest q.takes in
-    let t = ty_found (Block ∷ xs) z.rest z.takes in
-    let b = (sound (length t.rest + 1)).block_found xs t.rest (omega arith) t.takes in
-    record {
-      tree = record { at = p.at; own = q.it; result = t.tree; body = b.tree };
-      rest = b.rest;
-      is = main_made ts p.rest a.rest q.rest z.rest t.rest b.rest p.at a.at z.at q.it t.tree b.tree p.is a.is q.is z.is t.is b.is;
-      shorter = omega (arith, fewer p.is, fewer a.is, fewer q.is, fewer z.is, t.shorter, b.shorter);
-      takes = b.takes;
-    }
+pub ty_found : (xs : List Symbol) (ts : List Token) → halt (Ty ∷ xs) ts ≡ None → Found (IsWritten ts) xs ts
+ty_found xs ts h = ty_below (length ts + 1) xs ts (omega arith) h
 
--- one declaration
-abbrev IsDecl : List Token → List Token → RawDecl → Type 0
-IsDecl ts rest d = IsDecls ts rest (d ∷ [])
+-- Expressions.
+leaf_here : (xs : List Symbol) (at : ℕ) (kind : Kind) (ts : List Token) → halt (Leaf ∷ xs) (token at kind ∷ ts) ≡ None → Found (IsExpr (token at kind ∷ ts)) xs (token at kind ∷ ts)
+unfolding halt
+leaf_here xs at (k.Name n) ts h = record { tree = var at n; rest = ts; is = IsExpr.is_var (record { at = at; id = n }); shorter = omega arith; takes = h }
+leaf_here xs at (k.Number n) ts h = record { tree = number at n; rest = ts; is = IsExpr.is_number at n; shorter = omega arith; takes = h }
+leaf_here xs at (k.Word w.True) ts h = record { tree = truth at true; rest = ts; is = IsExpr.is_true at; shorter = omega arith; takes = h }
+leaf_here xs at (k.Word w.False) ts h = record { tree = truth at false; rest = ts; is = IsExpr.is_false at; shorter = omega arith; takes = h }
+leaf_here xs at _ ts h = absurd (cc)
 
-declaration_found : (xs : List Symbol) (ts : List Token) (f : DeclarationForm) → halt (declaration_symbol f ∷ xs) ts ≡ None → Found (IsDecl ts) xs ts
-declaration_found xs ts decl.Priority h =
-    let p = word_taken w.Priority (AName ∷ ASign s.Semicolon ∷ xs) ts (sym (halt-priority xs ts) ∙ h) in
-    let n = name_taken (ASign s.Semicolon ∷ xs) p.rest p.takes in
-    let z = sign_taken s.Semicolon xs n.rest n.takes in
-    record { tree = which.Priority n.it; rest = z.rest; is = priority_made ts p.rest n.rest z.rest p.at z.at n.it p.is n.is z.is; shorter = omega (arith, fewer p.is, fewer n.is, fewer z.is); takes = z.takes }
-declaration_found xs ts decl.Order h =
-    let p = word_taken w.Order (AName ∷ ASign s.Less ∷ AName ∷ ASign s.Semicolon ∷ xs) ts (sym (halt-order xs ts) ∙ h) in
-    let m = name_taken (ASign s.Less ∷ AName ∷ ASign s.Semicolon ∷ xs) p.rest p.takes in
-    let l = sign_taken s.Less (AName ∷ ASign s.Semicolon ∷ xs) m.rest m.takes in
-    let n = name_taken (ASign s.Semicolon ∷ xs) l.rest l.takes in
-    let z = sign_taken s.Semicolon xs n.rest n.takes in
-    record {
-      tree = which.Order p.at m.it n.it;
-      rest = z.rest;
-      is = order_made ts p.rest m.rest l.rest n.rest z.rest p.at l.at z.at m.it n.it p.is m.is l.is n.is z.is;
-      shorter = omega (arith, fewer p.is, fewer m.is, fewer l.is, fewer n.is, fewer z.is);
-      takes = z.takes;
-    }
+leaf_found : (xs : List Symbol) (ts : List Token) → halt (Leaf ∷ xs) ts ≡ None → Found (IsExpr ts) xs ts
+leaf_found xs [] h = not_at_end Leaf xs h
+leaf_found xs (t ∷ ts) h = leaf_here xs t.at t.kind ts h
 
-program_step : (n : ℕ) (ts : List Token) → length ts < suc n → halt (Program ∷ []) ts ≡ None
-    → ((us : List Token) → length us < n → halt (Program ∷ []) us ≡ None → (p : RawTree) × IsProgram us p)
-    → (o : Option DeclarationForm) → declaration_form ts ≡ o → (p : RawTree) × IsProgram ts p
-program_step n ts l h below None e =
-    let m = main_found [] ts (sym (program-main [] ts e) ∙ h) in
-    (record { decls = []; main = m.tree }, program_made ts ts m.rest [] m.tree IsDecls.no_more m.is (nothing_left m.rest m.takes))
-program_step n ts l h below (Some f) e =
-    let d = declaration_found (Program ∷ []) ts f (sym (program-declaration [] ts f e) ∙ h) in
-    let p = below d.rest (omega (arith, d.shorter)) d.takes in
-    (record { decls = d.tree ∷ p.0.decls; main = p.0.main }, more_declared d.is p.1)
+abbrev ExprBelow : ℕ → Type 0
+ExprBelow n = (xs : List Symbol) (ts : List Token) → length ts < n → halt (Expr ∷ xs) ts ≡ None → Found (IsExpr ts) xs ts
 
-program_below : (n : ℕ) (ts : List Token) → length ts < n → halt (Program ∷ []) ts ≡ None → (p : RawTree) × IsProgram ts p
-program_below zero ts l h = absurd (omega arith)
-program_below (suc n) ts l h = program_step n ts l h (λ us. program_below n us) (declaration_form ts) refl
+module _ (n : ℕ) (below : ExprBelow n) where
+  behind_found : (at : ℕ) (xs : List Symbol) (ts us : List Token) (x : RawTerm) → IsExpr us ts x → length ts < n → halt (Behind ∷ xs) ts ≡ None
+      → (b : Bool) → is_at (is_sign s.CloseParen) ts ≡ b → Found (IsExpr (sign at s.OpenParen ∷ us)) xs ts
+  behind_found at xs ts us x i l h true e =
+      let d = sign_taken s.CloseParen xs ts (sym (behind-close xs ts e) ∙ h) in
+      record { tree = x; rest = d.rest; is = closed_made us ts d.rest at d.at x d.is i; shorter = d.shorter; takes = d.takes }
+  behind_found at xs ts us x i l h false e =
+      let j = form_taken AJoint joint_form (Expr ∷ ASign s.CloseParen ∷ xs) ts (λ kind. refl) (sym (halt-joined xs ts) ∙ sym (behind-more xs ts e) ∙ h) in
+      let y = below (ASign s.CloseParen ∷ xs) j.rest (omega (arith, j.shorter)) j.takes in
+      let d = sign_taken s.CloseParen xs y.rest y.takes in
+      record {
+        tree = joint_term j.it at x y.tree;
+        rest = d.rest;
+        is = joined_made us ts j.rest y.rest d.rest at d.at j.it x y.tree (joint_term j.it at x y.tree) j.is y.is d.is (refl {a = joint_term j.it at x y.tree}) i;
+        shorter = omega (arith, j.shorter, y.shorter, d.shorter);
+        takes = d.takes;
+      }
 
-pub program_found : (ts : List Token) → halt (Program ∷ []) ts ≡ None → (p : RawTree) × IsProgram ts p
-program_found ts h = program_below (length ts + 1) ts (omega arith) h
+  inside_found : (at : ℕ) (xs : List Symbol) (ts : List Token) → length ts < n → halt (Inside ∷ xs) ts ≡ None → (b : Bool) → is_at (is_sign s.CloseParen) ts ≡ b
+      → Found (IsExpr (sign at s.OpenParen ∷ ts)) xs ts
+  inside_found at xs ts l h true e =
+      let d = sign_taken s.CloseParen xs ts (sym (inside-close xs ts e) ∙ h) in
+      record { tree = nothing at; rest = d.rest; is = nothing_made ts d.rest at d.at d.is; shorter = d.shorter; takes = d.takes }
+  inside_found at xs ts l h false e =
+      let x = below (Behind ∷ xs) ts l (sym (halt-bracketed xs ts) ∙ sym (inside-more xs ts e) ∙ h) in
+      let b = behind_found at xs x.rest ts x.tree x.is (omega (arith, x.shorter)) x.takes (is_at (is_sign s.CloseParen) x.rest) (refl {a = is_at (is_sign s.CloseParen) x.rest}) in
+      record { tree = b.tree; rest = b.rest; is = b.is; shorter = omega (arith, x.shorter, b.shorter); takes = b.takes }
+
+  opened_found : (xs : List Symbol) (ts : List Token) → length ts ≤ n → halt (Opened ∷ xs) ts ≡ None → Found (IsExpr ts) xs ts
+  opened_found xs ts l h =
+      let p = sign_taken s.OpenParen (Inside ∷ xs) ts (sym (halt-opened xs ts) ∙ h) in
+      let x = inside_found p.at xs p.rest (omega (arith, p.shorter)) p.takes (is_at (is_sign s.CloseParen) p.rest) (refl {a = is_at (is_sign s.CloseParen) p.rest}) in
+      record { tree = x.tree; rest = x.rest; is = opened_made ts p.rest x.rest p.at x.tree p.is x.is; shorter = omega (arith, p.shorter, x.shorter); takes = x.takes }
+
+  applied_found : (p : Prefix) (xs : List Symbol) (ts : List Token) → length ts ≤ n → halt (Applied p ∷ xs) ts ≡ None → Found (IsExpr ts) xs ts
+  applied_found p xs ts l h =
+      let a = word_taken (prefix_word p) (ASign s.OpenParen ∷ Expr ∷ ASign s.CloseParen ∷ xs) ts (sym (halt-applied p xs ts) ∙ h) in
+      let b = sign_taken s.OpenParen (Expr ∷ ASign s.CloseParen ∷ xs) a.rest a.takes in
+      let x = below (ASign s.CloseParen ∷ xs) b.rest (omega (arith, a.shorter, b.shorter)) b.takes in
+      let d = sign_taken s.CloseParen xs x.rest x.takes in
+      record {
+        tree = prefix_term p a.at x.tree;
+        rest = d.rest;
+        is = applied_made ts a.rest b.rest x.rest d.rest a.at b.at d.at p x.tree (prefix_term p a.at x.tree) a.is b.is x.is d.is (refl {a = prefix_term p a.at x.tree});
+        shorter = omega (arith, a.shorter, b.shorter, x.shorter, d.shorter);
+        takes = d.takes;
+      }
+
+  injected_found : (side : Side) (xs : List Symbol) (ts : List Token) → length ts ≤ n → halt (Injected side ∷ xs) ts ≡ None → Found (IsExpr ts) xs ts
+  injected_found side xs ts l h =
+      let a = word_taken (side_word side) (ASign s.OpenBracket ∷ Ty ∷ ASign s.CloseBracket ∷ ASign s.OpenParen ∷ Expr ∷ ASign s.CloseParen ∷ xs) ts (sym (halt-injected side xs ts) ∙ h) in
+      let b = sign_taken s.OpenBracket (Ty ∷ ASign s.CloseBracket ∷ ASign s.OpenParen ∷ Expr ∷ ASign s.CloseParen ∷ xs) a.rest a.takes in
+      let t = ty_found (ASign s.CloseBracket ∷ ASign s.OpenParen ∷ Expr ∷ ASign s.CloseParen ∷ xs) b.rest b.takes in
+      let c = sign_taken s.CloseBracket (ASign s.OpenParen ∷ Expr ∷ ASign s.CloseParen ∷ xs) t.rest t.takes in
+      let d = sign_taken s.OpenParen (Expr ∷ ASign s.CloseParen ∷ xs) c.rest c.takes in
+      let x = below (ASign s.CloseParen ∷ xs) d.rest (omega (arith, a.shorter, b.shorter, t.shorter, c.shorter, d.shorter)) d.takes in
+      let e = sign_taken s.CloseParen xs x.rest x.takes in
+      record {
+        tree = side_term side a.at t.tree x.tree;
+        rest = e.rest;
+        is = injected_made ts a.rest b.rest t.rest c.rest d.rest x.rest e.rest a.at b.at c.at d.at e.at side t.tree x.tree (side_term side a.at t.tree x.tree) a.is b.is t.is c.is d.is x.is e.is (refl {a = side_term side a.at t.tree x.tree});
+        shorter = omega (arith, a.shorter, b.shorter, t.shorter, c.shorter, d.shorter, x.shorter, e.shorter);
+        takes = e.takes;
+      }
+
+  expr_step : (xs : List Symbol) (ts : List Token) → length ts ≤ n → halt (Expr ∷ xs) ts ≡ None → (o : Option ExprForm) → form_at expr_form ts ≡ o → Found (IsExpr ts) xs ts
+  expr_step xs ts l h None e = absurd (let f : Some ts ≡ None = sym (expr-none xs ts e) ∙ h in cc)
+  expr_step xs ts l h (Some expr.Leaf) e = leaf_found xs ts (sym (expr-leaf xs ts e) ∙ h)
+  expr_step xs ts l h (Some expr.Opened) e = opened_found xs ts l (sym (expr-opened xs ts e) ∙ h)
+  expr_step xs ts l h (Some (expr.Applied p)) e = applied_found p xs ts l (expr-applied xs ts p e ∙ h)
+  expr_step xs ts l h (Some (expr.Injected d)) e = injected_found d xs ts l (expr-injected xs ts d e ∙ h)
+
+expr_below : (n : ℕ) → ExprBelow n
+expr_below zero xs ts l h = absurd (omega arith)
+expr_below (suc n) xs ts l h = expr_step n (expr_below n) xs ts (omega arith) h (form_at expr_form ts) refl
+
+pub expr_found : (xs : List Symbol) (ts : List Token) → halt (Expr ∷ xs) ts ≡ None → Found (IsExpr ts) xs ts
+expr_found xs ts h = expr_below (length ts + 1) xs ts (omega arith) h

@@ -1,19 +1,22 @@
 -- What one token does to the symbols.
-use Rattle.std.proofs.Common.{List, [], ◌∷◌, ◌++◌, ◌≡◌, Some, None, Option, Err, true, false, refl, ap, ◌∙◌, append_assoc}
+use Rattle.std.proofs.Common.{List, [], ◌∷◌, ◌++◌, ◌≡◌, Some, None, Option, Result, IfOk, Ok, Err, Bool, true, false, cond, refl, sym, ap, ◌∙◌, append_assoc}
 use Rattle.source_tokens.specs.declared.token.Token.{Token}
 use Rattle.source_tokens.specs.declared.token.Kind.{Kind}
-use Rattle.source_tokens.specs.declared.token.Kind.TheVariants as k
 use Rattle.source_tokens.specs.declared.token.Word.TheVariants as w
 use Rattle.source_tokens.specs.declared.token.Sign.TheVariants as s
-use Rattle.source_grammar.specs.declared.cursor.DeclarationForm.{DeclarationForm}
-use Rattle.source_grammar.specs.declared.cursor.DeclarationForm.TheVariants as decl
-use Rattle.source_grammar.specs.declared.cursor.ActionForm.{ActionForm}
-use Rattle.source_grammar.specs.declared.cursor.ActionForm.TheVariants as form
+use Rattle.source_grammar.specs.declared.choice.TyForm.{TyForm}
+use Rattle.source_grammar.specs.declared.choice.TyForm.TheVariants as ty
+use Rattle.source_grammar.specs.declared.choice.Mid.{Mid}
+use Rattle.source_grammar.specs.declared.choice.Prefix.{Prefix}
+use Rattle.source_grammar.specs.declared.choice.Side.{Side}
+use Rattle.source_grammar.specs.declared.choice.ExprForm.{ExprForm}
+use Rattle.source_grammar.specs.declared.choice.ExprForm.TheVariants as expr
+use Rattle.source_grammar.specs.declared.choice.Joint.{Joint}
 use Rattle.source_grammar.specs.declared.cursor.Stop.{Stop}
 use Rattle.source_grammar.specs.declared.cursor.Stop.TheVariants as stop
 use Rattle.source_grammar.specs.Stops.{Moves, MovesTo}
-use Rattle.source_grammar.specs.Next.{is_name, is_at_name, declaration_form, declaration_form_of, declaration_symbol, action_form, action_form_of, action_symbol}
-use Rattle.source_grammar.specs.Machine.{Symbol, rule, halt, go_on, AName, AWord, ASign, Program, Priority, Order, Main, Ty, Block, Binds, Bind, Tail, Action, Returned, Spawn, Sync, Expr}
+use Rattle.source_grammar.specs.Next.{is_at, form_at, is_sign, ty_form, mid_form, expr_form, joint_form, prefix_word, side_word}
+use Rattle.source_grammar.specs.Machine.{Symbol, rule, halt, go_on, and_then, by_form, rule_ty_form, rule_expr_form, rule_bracketed, rule_joined, AName, AWord, ASign, Ty, SimpleTy, ThreadTy, PairedTy, TyMid, Expr, Leaf, Opened, Inside, Bracketed, Behind, Joined, AJoint, Applied, Injected, Given, Parameter}
 
 pub halt-some : (x : Symbol) (xs ys : List Symbol) (t : Token) (ts : List Token) → rule x t.kind ≡ Some ys → halt (x ∷ xs) (t ∷ ts) ≡ halt (ys ++ xs) ts
 unfolding halt
@@ -23,11 +26,11 @@ halt-none : (x : Symbol) (xs : List Symbol) (t : Token) (ts : List Token) → ru
 unfolding halt
 halt-none x xs t ts h = ap (λ o. go_on o xs (t ∷ ts) (λ zs. halt zs ts)) h
 
--- A form begins with another symbol's token, and then other symbols come.
-abbrev and_then : List Symbol → Option (List Symbol) → Option (List Symbol)
-and_then zs None = None
-and_then zs (Some us) = Some (us ++ zs)
+pub halt-end : (x y : Symbol) (xs ys : List Symbol) → halt (x ∷ xs) [] ≡ halt (y ∷ ys) []
+unfolding halt
+halt-end x y xs ys = refl
 
+-- A form begins with another symbol's token, and then other symbols come.
 abbrev Begins : Symbol → Symbol → List Symbol → Kind → Type 0
 Begins x y zs kind = rule x kind ≡ and_then zs (rule y kind)
 
@@ -36,195 +39,166 @@ regroup : (o : Option (List Symbol)) (zs xs : List Symbol) (here ts : List Token
 regroup None zs xs here ts = refl
 regroup (Some us) zs xs here ts = ap (λ v. halt v ts) (append_assoc us zs xs)
 
-begins_here : (x y : Symbol) (zs xs : List Symbol) (t : Token) (ts : List Token) → Begins x y zs t.kind → halt (x ∷ xs) (t ∷ ts) ≡ halt (y ∷ zs ++ xs) (t ∷ ts)
+pub begins_here : (x y : Symbol) (zs xs : List Symbol) (t : Token) (ts : List Token) → Begins x y zs t.kind → halt (x ∷ xs) (t ∷ ts) ≡ halt (y ∷ zs ++ xs) (t ∷ ts)
 unfolding halt
 begins_here x y zs xs t ts h = ap (λ o. go_on o xs (t ∷ ts) (λ ys. halt ys ts)) h ∙ regroup (rule y t.kind) zs xs (t ∷ ts) ts
 
-begins_end : (x y : Symbol) (xs ys : List Symbol) → halt (x ∷ xs) [] ≡ halt (y ∷ ys) []
-unfolding halt
-begins_end x y xs ys = refl
-
-begins : (x y : Symbol) (zs xs : List Symbol) (ts : List Token) → ((kind : Kind) → Begins x y zs kind) → halt (x ∷ xs) ts ≡ halt (y ∷ zs ++ xs) ts
-begins x y zs xs [] h = begins_end x y xs (zs ++ xs)
+pub begins : (x y : Symbol) (zs xs : List Symbol) (ts : List Token) → ((kind : Kind) → Begins x y zs kind) → halt (x ∷ xs) ts ≡ halt (y ∷ zs ++ xs) ts
+begins x y zs xs [] h = halt-end x y xs (zs ++ xs)
 begins x y zs xs (t ∷ ts) h = begins_here x y zs xs t ts (h t.kind)
 
--- The forms with one first token.
-priority_begins : (kind : Kind) → Begins Priority (AWord w.Priority) (AName ∷ ASign s.Semicolon ∷ []) kind
-priority_begins (k.Name n) = refl
-priority_begins (k.Number n) = refl
-priority_begins (k.Sign x) = refl
-priority_begins (k.Word w.Priority) = refl
-priority_begins (k.Word _) = refl
-
-order_begins : (kind : Kind) → Begins Order (AWord w.Order) (AName ∷ ASign s.Less ∷ AName ∷ ASign s.Semicolon ∷ []) kind
-order_begins (k.Name n) = refl
-order_begins (k.Number n) = refl
-order_begins (k.Sign x) = refl
-order_begins (k.Word w.Order) = refl
-order_begins (k.Word _) = refl
-
-main_begins : (kind : Kind) → Begins Main (AWord w.Main) (AWord w.At ∷ AName ∷ ASign s.Colon ∷ Ty ∷ Block ∷ []) kind
-main_begins (k.Name n) = refl
-main_begins (k.Number n) = refl
-main_begins (k.Sign x) = refl
-main_begins (k.Word w.Main) = refl
-main_begins (k.Word _) = refl
-
-ty_begins : (kind : Kind) → Begins Ty (AWord w.Int) [] kind
-ty_begins (k.Name n) = refl
-ty_begins (k.Number n) = refl
-ty_begins (k.Sign x) = refl
-ty_begins (k.Word w.Int) = refl
-ty_begins (k.Word _) = refl
-
-block_begins : (kind : Kind) → Begins Block (ASign s.OpenBrace) (Binds ∷ []) kind
-block_begins (k.Name n) = refl
-block_begins (k.Number n) = refl
-block_begins (k.Sign s.OpenBrace) = refl
-block_begins (k.Sign _) = refl
-block_begins (k.Word x) = refl
-
-bind_begins : (kind : Kind) → Begins Bind AName (ASign s.Arrow ∷ Action ∷ ASign s.Semicolon ∷ []) kind
-bind_begins (k.Name n) = refl
-bind_begins (k.Number n) = refl
-bind_begins (k.Sign x) = refl
-bind_begins (k.Word x) = refl
-
-tail_begins : (kind : Kind) → Begins Tail (AWord w.Ret) (Expr ∷ []) kind
-tail_begins (k.Name n) = refl
-tail_begins (k.Number n) = refl
-tail_begins (k.Sign x) = refl
-tail_begins (k.Word w.Ret) = refl
-tail_begins (k.Word _) = refl
-
-returned_begins : (kind : Kind) → Begins Returned (AWord w.Ret) (Expr ∷ []) kind
-returned_begins (k.Name n) = refl
-returned_begins (k.Number n) = refl
-returned_begins (k.Sign x) = refl
-returned_begins (k.Word w.Ret) = refl
-returned_begins (k.Word _) = refl
-
-spawn_begins : (kind : Kind) → Begins Spawn (AWord w.Spawn) (ASign s.OpenBracket ∷ AName ∷ ASign s.CloseBracket ∷ Block ∷ []) kind
-spawn_begins (k.Name n) = refl
-spawn_begins (k.Number n) = refl
-spawn_begins (k.Sign x) = refl
-spawn_begins (k.Word w.Spawn) = refl
-spawn_begins (k.Word _) = refl
-
-sync_begins : (kind : Kind) → Begins Sync (AWord w.Sync) (AName ∷ []) kind
-sync_begins (k.Name n) = refl
-sync_begins (k.Number n) = refl
-sync_begins (k.Sign x) = refl
-sync_begins (k.Word w.Sync) = refl
-sync_begins (k.Word _) = refl
-
-pub halt-priority : (xs : List Symbol) (ts : List Token) → halt (Priority ∷ xs) ts ≡ halt (AWord w.Priority ∷ AName ∷ ASign s.Semicolon ∷ xs) ts
-halt-priority xs ts = begins _ _ _ xs ts priority_begins
-
-pub halt-order : (xs : List Symbol) (ts : List Token) → halt (Order ∷ xs) ts ≡ halt (AWord w.Order ∷ AName ∷ ASign s.Less ∷ AName ∷ ASign s.Semicolon ∷ xs) ts
-halt-order xs ts = begins _ _ _ xs ts order_begins
-
-pub halt-main : (xs : List Symbol) (ts : List Token) → halt (Main ∷ xs) ts ≡ halt (AWord w.Main ∷ AWord w.At ∷ AName ∷ ASign s.Colon ∷ Ty ∷ Block ∷ xs) ts
-halt-main xs ts = begins _ _ _ xs ts main_begins
-
-pub halt-ty : (xs : List Symbol) (ts : List Token) → halt (Ty ∷ xs) ts ≡ halt (AWord w.Int ∷ xs) ts
-halt-ty xs ts = begins _ _ _ xs ts ty_begins
-
-pub halt-block : (xs : List Symbol) (ts : List Token) → halt (Block ∷ xs) ts ≡ halt (ASign s.OpenBrace ∷ Binds ∷ xs) ts
-halt-block xs ts = begins _ _ _ xs ts block_begins
-
-pub halt-bind : (xs : List Symbol) (ts : List Token) → halt (Bind ∷ xs) ts ≡ halt (AName ∷ ASign s.Arrow ∷ Action ∷ ASign s.Semicolon ∷ xs) ts
-halt-bind xs ts = begins _ _ _ xs ts bind_begins
-
-pub halt-tail : (xs : List Symbol) (ts : List Token) → halt (Tail ∷ xs) ts ≡ halt (AWord w.Ret ∷ Expr ∷ xs) ts
-halt-tail xs ts = begins _ _ _ xs ts tail_begins
-
-pub halt-returned : (xs : List Symbol) (ts : List Token) → halt (Returned ∷ xs) ts ≡ halt (AWord w.Ret ∷ Expr ∷ xs) ts
-halt-returned xs ts = begins _ _ _ xs ts returned_begins
-
-pub halt-spawn : (xs : List Symbol) (ts : List Token) → halt (Spawn ∷ xs) ts ≡ halt (AWord w.Spawn ∷ ASign s.OpenBracket ∷ AName ∷ ASign s.CloseBracket ∷ Block ∷ xs) ts
-halt-spawn xs ts = begins _ _ _ xs ts spawn_begins
-
-pub halt-sync : (xs : List Symbol) (ts : List Token) → halt (Sync ∷ xs) ts ≡ halt (AWord w.Sync ∷ AName ∷ xs) ts
-halt-sync xs ts = begins _ _ _ xs ts sync_begins
-
--- The next token chooses an action.
-action_begins : (kind : Kind) (f : ActionForm) → action_form_of kind ≡ Some f → Begins Action (action_symbol f) [] kind
-action_begins (k.Word w.Ret) form.Returned h = refl
-action_begins (k.Word w.Ret) _ h = cc
-action_begins (k.Word w.Spawn) form.Spawn h = refl
-action_begins (k.Word w.Spawn) _ h = cc
-action_begins (k.Word w.Sync) form.Sync h = refl
-action_begins (k.Word w.Sync) _ h = cc
-action_begins _ f h = cc
-
-no_action : (kind : Kind) → action_form_of kind ≡ None → rule Action kind ≡ None
-no_action (k.Word w.Ret) h = cc
-no_action (k.Word w.Spawn) h = cc
-no_action (k.Word w.Sync) h = cc
-no_action _ h = refl
-
-chosen : (xs : List Symbol) (ts : List Token) (f : ActionForm) → action_form ts ≡ Some f → halt (Action ∷ xs) ts ≡ halt (action_symbol f ∷ xs) ts
-chosen xs [] f h = cc
-chosen xs (t ∷ ts) f h = begins_here Action (action_symbol f) [] xs t ts (action_begins t.kind f h)
-
-pub action-returned : (xs : List Symbol) (ts : List Token) → action_form ts ≡ Some form.Returned → halt (Action ∷ xs) ts ≡ halt (Returned ∷ xs) ts
-action-returned xs ts h = chosen xs ts form.Returned h
-
-pub action-spawn : (xs : List Symbol) (ts : List Token) → action_form ts ≡ Some form.Spawn → halt (Action ∷ xs) ts ≡ halt (Spawn ∷ xs) ts
-action-spawn xs ts h = chosen xs ts form.Spawn h
-
-pub action-sync : (xs : List Symbol) (ts : List Token) → action_form ts ≡ Some form.Sync → halt (Action ∷ xs) ts ≡ halt (Sync ∷ xs) ts
-action-sync xs ts h = chosen xs ts form.Sync h
-
-pub action-none : (xs : List Symbol) (ts : List Token) → action_form ts ≡ None → halt (Action ∷ xs) ts ≡ Some ts
+-- A symbol is another one at this token.
+pub same_here : (x y : Symbol) (xs : List Symbol) (t : Token) (ts : List Token) → rule x t.kind ≡ rule y t.kind → halt (x ∷ xs) (t ∷ ts) ≡ halt (y ∷ xs) (t ∷ ts)
 unfolding halt
-action-none xs [] h = refl
-action-none xs (t ∷ ts) h = halt-none Action xs t ts (no_action t.kind h)
+same_here x y xs t ts h = ap (λ o. go_on o xs (t ∷ ts) (λ ys. halt ys ts)) h
 
--- In a block a name begins a bound action, and anything else is the ending's.
-binds_more : (kind : Kind) → is_name kind ≡ true → Begins Binds Bind (Binds ∷ []) kind
-binds_more (k.Name n) h = refl
-binds_more (k.Number n) h = cc
-binds_more (k.Sign x) h = cc
-binds_more (k.Word x) h = cc
+pub same : (x y : Symbol) (xs : List Symbol) (ts : List Token) → ((kind : Kind) → rule x kind ≡ rule y kind) → halt (x ∷ xs) ts ≡ halt (y ∷ xs) ts
+same x y xs [] h = halt-end x y xs xs
+same x y xs (t ∷ ts) h = same_here x y xs t ts (h t.kind)
 
-binds_end : (kind : Kind) → is_name kind ≡ false → Begins Binds Tail (ASign s.CloseBrace ∷ []) kind
-binds_end (k.Name n) h = cc
-binds_end (k.Number n) h = refl
-binds_end (k.Sign x) h = refl
-binds_end (k.Word w.Ret) h = refl
-binds_end (k.Word _) h = refl
+-- Straight lines.
+pub halt-thread_ty : (xs : List Symbol) (ts : List Token) → halt (ThreadTy ∷ xs) ts ≡ halt (AWord w.Thread ∷ ASign s.OpenBracket ∷ AName ∷ ASign s.CloseBracket ∷ ASign s.OpenParen ∷ Ty ∷ ASign s.CloseParen ∷ xs) ts
+halt-thread_ty xs ts = begins _ _ (ASign s.OpenBracket ∷ AName ∷ ASign s.CloseBracket ∷ ASign s.OpenParen ∷ Ty ∷ ASign s.CloseParen ∷ []) xs ts (λ kind. refl)
 
-pub binds-name : (xs : List Symbol) (ts : List Token) → is_at_name ts ≡ true → halt (Binds ∷ xs) ts ≡ halt (Bind ∷ Binds ∷ xs) ts
-binds-name xs [] h = cc
-binds-name xs (t ∷ ts) h = begins_here Binds Bind (Binds ∷ []) xs t ts (binds_more t.kind h)
+pub halt-paired_ty : (xs : List Symbol) (ts : List Token) → halt (PairedTy ∷ xs) ts ≡ halt (ASign s.OpenParen ∷ Ty ∷ TyMid ∷ Ty ∷ ASign s.CloseParen ∷ xs) ts
+halt-paired_ty xs ts = begins _ _ (Ty ∷ TyMid ∷ Ty ∷ ASign s.CloseParen ∷ []) xs ts (λ kind. refl)
 
-pub binds-tail : (xs : List Symbol) (ts : List Token) → is_at_name ts ≡ false → halt (Binds ∷ xs) ts ≡ halt (Tail ∷ ASign s.CloseBrace ∷ xs) ts
-binds-tail xs [] h = begins_end _ _ _ _
-binds-tail xs (t ∷ ts) h = begins_here Binds Tail (ASign s.CloseBrace ∷ []) xs t ts (binds_end t.kind h)
+pub halt-opened : (xs : List Symbol) (ts : List Token) → halt (Opened ∷ xs) ts ≡ halt (ASign s.OpenParen ∷ Inside ∷ xs) ts
+halt-opened xs ts = begins _ _ (Inside ∷ []) xs ts (λ kind. refl)
 
--- In a program the next token chooses a declaration, and anything else is the main procedure's.
-declaration_begins : (kind : Kind) (f : DeclarationForm) → declaration_form_of kind ≡ Some f → Begins Program (declaration_symbol f) (Program ∷ []) kind
-declaration_begins (k.Word w.Priority) decl.Priority h = refl
-declaration_begins (k.Word w.Priority) _ h = cc
-declaration_begins (k.Word w.Order) decl.Order h = refl
-declaration_begins (k.Word w.Order) _ h = cc
-declaration_begins _ f h = cc
+pub halt-bracketed : (xs : List Symbol) (ts : List Token) → halt (Bracketed ∷ xs) ts ≡ halt (Expr ∷ Behind ∷ xs) ts
+halt-bracketed xs ts = begins _ _ (Behind ∷ []) xs ts (λ kind. refl)
 
-declarations_end : (kind : Kind) → declaration_form_of kind ≡ None → Begins Program Main [] kind
-declarations_end (k.Word w.Priority) h = cc
-declarations_end (k.Word w.Order) h = cc
-declarations_end (k.Word w.Main) h = refl
-declarations_end _ h = refl
+pub halt-joined : (xs : List Symbol) (ts : List Token) → halt (Joined ∷ xs) ts ≡ halt (AJoint ∷ Expr ∷ ASign s.CloseParen ∷ xs) ts
+halt-joined xs ts = begins _ _ (Expr ∷ ASign s.CloseParen ∷ []) xs ts (λ kind. refl)
 
-pub program-declaration : (xs : List Symbol) (ts : List Token) (f : DeclarationForm) → declaration_form ts ≡ Some f → halt (Program ∷ xs) ts ≡ halt (declaration_symbol f ∷ Program ∷ xs) ts
-program-declaration xs [] f h = cc
-program-declaration xs (t ∷ ts) f h = begins_here Program (declaration_symbol f) (Program ∷ []) xs t ts (declaration_begins t.kind f h)
+pub halt-applied : (p : Prefix) (xs : List Symbol) (ts : List Token) → halt (Applied p ∷ xs) ts ≡ halt (AWord (prefix_word p) ∷ ASign s.OpenParen ∷ Expr ∷ ASign s.CloseParen ∷ xs) ts
+halt-applied p xs ts = begins _ _ (ASign s.OpenParen ∷ Expr ∷ ASign s.CloseParen ∷ []) xs ts (λ kind. refl)
 
-pub program-main : (xs : List Symbol) (ts : List Token) → declaration_form ts ≡ None → halt (Program ∷ xs) ts ≡ halt (Main ∷ xs) ts
-program-main xs [] h = begins_end _ _ _ _
-program-main xs (t ∷ ts) h = begins_here Program Main [] xs t ts (declarations_end t.kind h)
+pub halt-injected : (d : Side) (xs : List Symbol) (ts : List Token) → halt (Injected d ∷ xs) ts ≡ halt (AWord (side_word d) ∷ ASign s.OpenBracket ∷ Ty ∷ ASign s.CloseBracket ∷ ASign s.OpenParen ∷ Expr ∷ ASign s.CloseParen ∷ xs) ts
+halt-injected d xs ts = begins _ _ (ASign s.OpenBracket ∷ Ty ∷ ASign s.CloseBracket ∷ ASign s.OpenParen ∷ Expr ∷ ASign s.CloseParen ∷ []) xs ts (λ kind. refl)
+
+pub halt-given : (xs : List Symbol) (ts : List Token) → halt (Given ∷ xs) ts ≡ halt (AName ∷ ASign s.AtMost ∷ AName ∷ xs) ts
+halt-given xs ts = begins _ _ (ASign s.AtMost ∷ AName ∷ []) xs ts (λ kind. refl)
+
+pub halt-parameter : (xs : List Symbol) (ts : List Token) → halt (Parameter ∷ xs) ts ≡ halt (AName ∷ ASign s.Colon ∷ Ty ∷ xs) ts
+halt-parameter xs ts = begins _ _ (ASign s.Colon ∷ Ty ∷ []) xs ts (λ kind. refl)
+
+-- The next token chooses a type.
+abbrev ty_symbol : TyForm → Symbol
+ty_symbol ty.Simple = SimpleTy
+ty_symbol ty.Thread = ThreadTy
+ty_symbol ty.Paired = PairedTy
+
+ty_line : (f : TyForm) (kind : Kind) → rule_ty_form kind f ≡ rule (ty_symbol f) kind
+ty_line ty.Simple kind = refl
+ty_line ty.Thread kind = refl
+ty_line ty.Paired kind = refl
+
+ty_chosen : (xs : List Symbol) (ts : List Token) (f : TyForm) → form_at ty_form ts ≡ Some f → halt (Ty ∷ xs) ts ≡ halt (ty_symbol f ∷ xs) ts
+ty_chosen xs [] f h = cc
+ty_chosen xs (t ∷ ts) f h = same_here Ty (ty_symbol f) xs t ts (ap (λ o. by_form o (rule_ty_form t.kind) None) h ∙ ty_line f t.kind)
+
+pub ty-simple : (xs : List Symbol) (ts : List Token) → form_at ty_form ts ≡ Some ty.Simple → halt (Ty ∷ xs) ts ≡ halt (SimpleTy ∷ xs) ts
+ty-simple xs ts h = ty_chosen xs ts ty.Simple h
+
+pub ty-thread : (xs : List Symbol) (ts : List Token) → form_at ty_form ts ≡ Some ty.Thread → halt (Ty ∷ xs) ts ≡ halt (ThreadTy ∷ xs) ts
+ty-thread xs ts h = ty_chosen xs ts ty.Thread h
+
+pub ty-paired : (xs : List Symbol) (ts : List Token) → form_at ty_form ts ≡ Some ty.Paired → halt (Ty ∷ xs) ts ≡ halt (PairedTy ∷ xs) ts
+ty-paired xs ts h = ty_chosen xs ts ty.Paired h
+
+-- Where no form comes, the machine stops.
+pub nothing_chosen : {F : Type 0} (x : Symbol) (form : Kind → Option F) (here : Kind → F → Option (List Symbol)) (xs : List Symbol) (ts : List Token)
+    → ((kind : Kind) → rule x kind ≡ by_form (form kind) (here kind) None) → form_at form ts ≡ None → halt (x ∷ xs) ts ≡ Some ts
+unfolding halt
+nothing_chosen x form here xs [] same h = refl
+nothing_chosen x form here xs (t ∷ ts) same h = halt-none x xs t ts (same t.kind ∙ ap (λ o. by_form o (here t.kind) None) h)
+
+pub ty-none : (xs : List Symbol) (ts : List Token) → form_at ty_form ts ≡ None → halt (Ty ∷ xs) ts ≡ Some ts
+ty-none xs ts h = nothing_chosen Ty ty_form rule_ty_form xs ts (λ kind. refl) h
+
+-- The next token chooses an expression.
+abbrev expr_symbol : ExprForm → Symbol
+expr_symbol expr.Leaf = Leaf
+expr_symbol expr.Opened = Opened
+expr_symbol (expr.Applied p) = Applied p
+expr_symbol (expr.Injected d) = Injected d
+
+expr_line : (f : ExprForm) (kind : Kind) → rule_expr_form kind f ≡ rule (expr_symbol f) kind
+expr_line expr.Leaf kind = refl
+expr_line expr.Opened kind = refl
+expr_line (expr.Applied p) kind = refl
+expr_line (expr.Injected d) kind = refl
+
+expr_chosen : (xs : List Symbol) (ts : List Token) (f : ExprForm) → form_at expr_form ts ≡ Some f → halt (Expr ∷ xs) ts ≡ halt (expr_symbol f ∷ xs) ts
+expr_chosen xs [] f h = cc
+expr_chosen xs (t ∷ ts) f h = same_here Expr (expr_symbol f) xs t ts (ap (λ o. by_form o (rule_expr_form t.kind) None) h ∙ expr_line f t.kind)
+
+pub expr-leaf : (xs : List Symbol) (ts : List Token) → form_at expr_form ts ≡ Some expr.Leaf → halt (Expr ∷ xs) ts ≡ halt (Leaf ∷ xs) ts
+expr-leaf xs ts h = expr_chosen xs ts expr.Leaf h
+
+pub expr-opened : (xs : List Symbol) (ts : List Token) → form_at expr_form ts ≡ Some expr.Opened → halt (Expr ∷ xs) ts ≡ halt (Opened ∷ xs) ts
+expr-opened xs ts h = expr_chosen xs ts expr.Opened h
+
+pub expr-applied : (xs : List Symbol) (ts : List Token) (p : Prefix) → form_at expr_form ts ≡ Some (expr.Applied p) → halt (Applied p ∷ xs) ts ≡ halt (Expr ∷ xs) ts
+expr-applied xs ts p h = sym (expr_chosen xs ts (expr.Applied p) h)
+
+pub expr-injected : (xs : List Symbol) (ts : List Token) (d : Side) → form_at expr_form ts ≡ Some (expr.Injected d) → halt (Injected d ∷ xs) ts ≡ halt (Expr ∷ xs) ts
+expr-injected xs ts d h = sym (expr_chosen xs ts (expr.Injected d) h)
+
+pub expr-none : (xs : List Symbol) (ts : List Token) → form_at expr_form ts ≡ None → halt (Expr ∷ xs) ts ≡ Some ts
+expr-none xs ts h = nothing_chosen Expr expr_form rule_expr_form xs ts (λ kind. refl) h
+
+-- One token joins two types, and one joins two expressions.
+pub mid-some : (xs : List Symbol) (ts : List Token) (t : Token) (m : Mid) → mid_form t.kind ≡ Some m → halt (TyMid ∷ xs) (t ∷ ts) ≡ halt xs ts
+mid-some xs ts t m h = halt-some TyMid xs [] t ts (ap (λ o. by_form o (λ f. Some []) None) h)
+
+pub mid-none : (xs : List Symbol) (ts : List Token) → form_at mid_form ts ≡ None → halt (TyMid ∷ xs) ts ≡ Some ts
+mid-none xs ts h = nothing_chosen TyMid mid_form (λ kind f. Some []) xs ts (λ kind. refl) h
+
+pub joint-some : (xs : List Symbol) (ts : List Token) (t : Token) (j : Joint) → joint_form t.kind ≡ Some j → halt (AJoint ∷ xs) (t ∷ ts) ≡ halt xs ts
+joint-some xs ts t j h = halt-some AJoint xs [] t ts (ap (λ o. by_form o (λ f. Some []) None) h)
+
+pub joint-none : (xs : List Symbol) (ts : List Token) → form_at joint_form ts ≡ None → halt (AJoint ∷ xs) ts ≡ Some ts
+joint-none xs ts h = nothing_chosen AJoint joint_form (λ kind f. Some []) xs ts (λ kind. refl) h
+
+-- A test of the next token chooses between two symbols.
+pub tested : (x y : Symbol) (test : Kind → Bool) (b : Bool) (xs : List Symbol) (ts : List Token) → ((kind : Kind) → test kind ≡ b → rule x kind ≡ rule y kind)
+    → is_at test ts ≡ b → halt (x ∷ xs) ts ≡ halt (y ∷ xs) ts
+tested x y test b xs [] same h = halt-end x y xs xs
+tested x y test b xs (t ∷ ts) same h = same_here x y xs t ts (same t.kind h)
+
+pub inside-close : (xs : List Symbol) (ts : List Token) → is_at (is_sign s.CloseParen) ts ≡ true → halt (Inside ∷ xs) ts ≡ halt (ASign s.CloseParen ∷ xs) ts
+inside-close xs ts h = tested Inside (ASign s.CloseParen) (is_sign s.CloseParen) true xs ts
+    (λ kind e. ap (λ b. cond b (Some []) (rule_bracketed kind)) e ∙ sym (ap (λ b. cond b (Some []) None) e)) h
+
+pub inside-more : (xs : List Symbol) (ts : List Token) → is_at (is_sign s.CloseParen) ts ≡ false → halt (Inside ∷ xs) ts ≡ halt (Bracketed ∷ xs) ts
+inside-more xs ts h = tested Inside Bracketed (is_sign s.CloseParen) false xs ts (λ kind e. ap (λ b. cond b (Some []) (rule_bracketed kind)) e) h
+
+pub behind-close : (xs : List Symbol) (ts : List Token) → is_at (is_sign s.CloseParen) ts ≡ true → halt (Behind ∷ xs) ts ≡ halt (ASign s.CloseParen ∷ xs) ts
+behind-close xs ts h = tested Behind (ASign s.CloseParen) (is_sign s.CloseParen) true xs ts
+    (λ kind e. ap (λ b. cond b (Some []) (rule_joined kind)) e ∙ sym (ap (λ b. cond b (Some []) None) e)) h
+
+pub behind-more : (xs : List Symbol) (ts : List Token) → is_at (is_sign s.CloseParen) ts ≡ false → halt (Behind ∷ xs) ts ≡ halt (Joined ∷ xs) ts
+behind-more xs ts h = tested Behind Joined (is_sign s.CloseParen) false xs ts (λ kind e. ap (λ b. cond b (Some []) (rule_joined kind)) e) h
+
+-- What a symbol does, another does that is the same here.
+pub moves_along : (A : Type 0) (x y : Symbol) (old new : List Token) (r : Result A Stop) → ((xs : List Symbol) → halt (x ∷ xs) old ≡ halt (y ∷ xs) old)
+    → Moves {A = A} y old new r → Moves {A = A} x old new r
+moves_along A x y old new (Ok a) f g = λ xs. f xs ∙ g xs
+moves_along A x y old new (Err stop.Syntax) f g = λ xs. f xs ∙ g xs
+moves_along A x y old new (Err stop.Memory) f g = tt
+
+pub moves_to_along : (A : Type 0) (x y : Symbol) (zs : List Symbol) (old new : List Token) (r : Result A Stop)
+    → ((xs : List Symbol) → halt (x ∷ xs) old ≡ halt (y ∷ xs) old) → MovesTo {A = A} y zs old new r → MovesTo {A = A} x zs old new r
+moves_to_along A x y zs old new (Ok a) f g = λ xs. f xs ∙ g xs
+moves_to_along A x y zs old new (Err stop.Syntax) f g = λ xs. f xs ∙ g xs
+moves_to_along A x y zs old new (Err stop.Memory) f g = tt
+
+pub if_ok : {A : Type 0} {P Q : A → Type 0} (r : Result A Stop) → ((x : A) → P x → Q x) → IfOk r P → IfOk r Q
+if_ok (Ok a) f h = f a h
+if_ok (Err e) f h = tt
 
 -- A part that refuses makes the whole refuse.
 pub part_refuses : (A B : Type 0) (x y : Symbol) (ys zs : List Symbol) (start now new : List Token) (e : Stop)
@@ -232,6 +206,6 @@ pub part_refuses : (A B : Type 0) (x y : Symbol) (ys zs : List Symbol) (start no
 part_refuses A B x y ys zs start now new stop.Syntax f g = λ xs. f xs ∙ g (ys ++ xs)
 part_refuses A B x y ys zs start now new stop.Memory f g = tt
 
-pub ruleset steps = (halt-priority, halt-order, halt-main, halt-ty, halt-block, halt-bind, halt-tail, halt-returned, halt-spawn, halt-sync)
+pub ruleset steps = (halt-thread_ty, halt-paired_ty, halt-opened, halt-bracketed, halt-joined, halt-applied, halt-injected, halt-given, halt-parameter)
 
-pub ruleset choices = (action-returned, action-spawn, action-sync, action-none)
+pub ruleset choices = (ty-simple, ty-thread, ty-paired, ty-none, expr-leaf, expr-opened, expr-applied, expr-injected, expr-none, mid-some, mid-none, joint-some, joint-none, inside-close, inside-more, behind-close, behind-more)

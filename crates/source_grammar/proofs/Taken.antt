@@ -10,7 +10,9 @@ use Rattle.source_tokens.specs.declared.token.Sign.{Sign}
 use Rattle.source_tokens.specs.declared.token.Sign.TheVariants as s
 use Rattle.source_grammar.specs.declared.raw.Name.{Name}
 use Rattle.source_grammar.specs.Grammar.{token, name}
-use Rattle.source_grammar.specs.Machine.{Symbol, rule, halt, go_on, word_number, sign_number, AName, AWord, ASign}
+use Rattle.source_grammar.specs.Joined.{IsToken}
+use Rattle.source_grammar.specs.Next.{word_number, sign_number}
+use Rattle.source_grammar.specs.Machine.{Symbol, rule, halt, go_on, by_form, AName, AWord, ASign}
 
 -- A word and a sign are known by their numbers.
 abbrev words : List Word
@@ -101,6 +103,7 @@ pub record BeginsWith (kind : Kind) (xs : List Symbol) (ts : List Token) : Type 
   pub at : ℕ
   pub rest : List Token
   pub is : ts ≡ token at kind ∷ rest
+  pub shorter : length rest < length ts
   pub takes : halt xs rest ≡ None
 
 begins : (kind : Kind) (x : Symbol) → ((other : Kind) (ys : List Symbol) → rule x other ≡ Some ys → (other ≡ kind) × (ys ≡ []))
@@ -109,7 +112,7 @@ begins kind x rules xs [] h = not_at_end x xs h
 begins kind x rules xs (t ∷ ts) h =
     let p = took x xs t ts h in
     let q = rules t.kind p.next p.by in
-    record { at = t.at; rest = ts; is = ap (λ z. token t.at z ∷ ts) q.0; takes = rw q.1 at p.takes }
+    record { at = t.at; rest = ts; is = ap (λ z. token t.at z ∷ ts) q.0; shorter = omega arith; takes = rw q.1 at p.takes }
 
 only : (b : Bool) (ys : List Symbol) → cond b (Some []) None ≡ Some ys → (b ≡ true) × (ys ≡ [])
 only true ys h = (refl, cc)
@@ -138,11 +141,12 @@ pub record BeginsWithName (xs : List Symbol) (ts : List Token) : Type 0 where
   pub it : Name
   pub rest : List Token
   pub is : ts ≡ name it ∷ rest
+  pub shorter : length rest < length ts
   pub takes : halt xs rest ≡ None
 
 name_here : (xs : List Symbol) (at : ℕ) (kind : Kind) (ts : List Token) → halt (AName ∷ xs) (token at kind ∷ ts) ≡ None → BeginsWithName xs (token at kind ∷ ts)
 unfolding halt
-name_here xs at (k.Name n) ts h = record { it = record { at = at; id = n }; rest = ts; is = refl; takes = h }
+name_here xs at (k.Name n) ts h = record { it = record { at = at; id = n }; rest = ts; is = refl; shorter = omega arith; takes = h }
 name_here xs at (k.Number n) ts h = absurd (cc)
 name_here xs at (k.Word x) ts h = absurd (cc)
 name_here xs at (k.Sign x) ts h = absurd (cc)
@@ -151,12 +155,28 @@ pub name_taken : (xs : List Symbol) (ts : List Token) → halt (AName ∷ xs) ts
 name_taken xs [] h = not_at_end AName xs h
 name_taken xs (t ∷ ts) h = name_here xs t.at t.kind ts h
 
+-- The first token has a form.
+pub record BeginsWithForm {F : Type 0} (form : Kind → Option F) (xs : List Symbol) (ts : List Token) : Type 0 where
+  pub it : F
+  pub rest : List Token
+  pub is : IsToken form ts rest it
+  pub shorter : length rest < length ts
+  pub takes : halt xs rest ≡ None
+
+form_by : {F : Type 0} (o : Option F) (ys : List Symbol) → by_form o (λ f. Some []) None ≡ Some ys → (f : F) × (o ≡ Some f) × (ys ≡ [])
+form_by (Some f) ys h = (f, refl, cc)
+form_by None ys h = absurd (cc)
+
+pub form_taken : {F : Type 0} (x : Symbol) (form : Kind → Option F) (xs : List Symbol) (ts : List Token) → ((kind : Kind) → rule x kind ≡ by_form (form kind) (λ f. Some []) None)
+    → halt (x ∷ xs) ts ≡ None → BeginsWithForm form xs ts
+form_taken x form xs [] same h = not_at_end x xs h
+form_taken x form xs (t ∷ ts) same h =
+    let p = took x xs t ts h in
+    let q = form_by (form t.kind) p.next (sym (same t.kind) ∙ p.by) in
+    record { it = q.0; rest = ts; is = (t, refl, q.1); shorter = omega arith; takes = rw q.2 at p.takes }
+
 -- Nothing is left where nothing is to come.
 pub nothing_left : (ts : List Token) → halt [] ts ≡ None → ts ≡ []
 unfolding halt
 nothing_left [] h = refl
 nothing_left (t ∷ ts) h = absurd (cc)
-
--- Behind one token there are fewer.
-pub fewer : {x : Token} {ts us : List Token} → ts ≡ x ∷ us → length us < length ts
-fewer {x = x} {us = us} e = omega (arith, ap length e)

@@ -5,7 +5,7 @@ use Rattle.source_tokens.specs.declared.token.Token.{Token}
 use Rattle.source_grammar.specs.Faults.{kinds, Viable, IsUnexpected}
 use Rattle.source_grammar.specs.Machine.{halt, Program}
 use Rattle.source_grammar.proofs.Moves.{no_program, program_moves}
-use Rattle.source_grammar.proofs.Sound.{program_found}
+use Rattle.source_grammar.proofs.SoundBlocks.{program_found}
 use Rattle.source_grammar.proofs.Viable.{goes_on, refused_at, same_kinds, halt_rest}
 
 kinds-append : (ts us : List Token) → kinds (ts ++ us) ≡ kinds ts ++ kinds us

@@ -1,5 +1,5 @@
 -- Where the machine stops.
-use Rattle.std.proofs.Common.{◌≤◌, List, [], ◌∷◌, ◌++◌, ◌≡◌, ◌≢◌, Some, None, Option, true, cond, ◌==◌, length, length-append, subst, sym, refl, ap, ◌∙◌, arith}
+use Rattle.std.proofs.Common.{◌≤◌, List, [], ◌∷◌, ◌++◌, ◌≡◌, ◌≢◌, Some, None, Option, true, cond, length, length-append, append_assoc, subst, sym, refl, ap, ◌∙◌, arith}
 use Rattle.std.proofs.lemmas.Bool.Decides.{nat_tests}
 use Rattle.source_tokens.specs.declared.token.Token.{Token}
 use Rattle.source_tokens.specs.declared.token.Kind.TheVariants as k
@@ -9,7 +9,12 @@ use Rattle.source_tokens.specs.declared.token.Sign.{Sign}
 use Rattle.source_tokens.specs.declared.token.Sign.TheVariants as s
 use Rattle.source_grammar.specs.Faults.{kinds}
 use Rattle.source_grammar.specs.Grammar.{token, sign, word}
-use Rattle.source_grammar.specs.Machine.{Symbol, rule, halt, go_on, word_number, sign_number, AName, AWord, ASign, Program, Priority, Order, Main, Ty, Block, Binds, Bind, Tail, Action, Returned, Spawn, Sync, Expr}
+use Rattle.source_grammar.specs.declared.choice.Prefix.TheVariants as prefix
+use Rattle.source_grammar.specs.declared.choice.Side.TheVariants as side
+use Rattle.source_grammar.specs.Next.{is_word, is_sign, prefix_word, side_word}
+use Rattle.source_grammar.specs.Machine.{Symbol, End, parens, brackets, variables, rule, halt, go_on, AName, AWord, ASign, AtEnd, BehindComma, More, Separated, Listed, Ty, SimpleTy, ThreadTy, PairedTy, TyMid, Expr, Leaf, Opened, Inside, Bracketed, Behind, Joined, AJoint, Applied, Injected, Block, Binds, Bind, Tail, Give, Branch, Split, Action, Returned, Spawn, Sync, Call, Run, Input, Output, CallOpen, CallPriorities, Program, Priority, Order, Procedure, Main, Routine, HeadOpen, HeadVariables, HeadEnd, HeadClose, HeadGiven, Given}
+use Rattle.source_grammar.specs.Machine as m
+use Rattle.source_grammar.proofs.CommaLists.{halt-separated}
 use Rattle.source_grammar.proofs.Steps.{halt-some}
 
 -- What is left is a part of the tokens.
@@ -42,39 +47,109 @@ halt_rest (t ∷ ts) (x ∷ xs) r h = rest_by (rule x t.kind) xs t ts r (λ ys. 
 abbrev a_name : Token
 a_name = token 0 (k.Name 0)
 
+abbrev completion_end : End → List Token
+completion_end parens = sign 0 s.CloseParen ∷ []
+completion_end brackets = sign 0 s.CloseBracket ∷ []
+completion_end variables = sign 0 s.CloseBracket ∷ sign 0 s.OpenParen ∷ []
+
 abbrev completion : Symbol → List Token
 completion AName = a_name ∷ []
 completion (AWord x) = word 0 x ∷ []
 completion (ASign x) = sign 0 x ∷ []
-completion Program = word 0 w.Main ∷ word 0 w.At ∷ a_name ∷ sign 0 s.Colon ∷ word 0 w.Int ∷ sign 0 s.OpenBrace ∷ word 0 w.Ret ∷ a_name ∷ sign 0 s.CloseBrace ∷ []
-completion Priority = word 0 w.Priority ∷ a_name ∷ sign 0 s.Semicolon ∷ []
-completion Order = word 0 w.Order ∷ a_name ∷ sign 0 s.Less ∷ a_name ∷ sign 0 s.Semicolon ∷ []
-completion Main = word 0 w.Main ∷ word 0 w.At ∷ a_name ∷ sign 0 s.Colon ∷ word 0 w.Int ∷ sign 0 s.OpenBrace ∷ word 0 w.Ret ∷ a_name ∷ sign 0 s.CloseBrace ∷ []
+completion (AtEnd e) = completion_end e
+completion (BehindComma x) = sign 0 s.Comma ∷ completion x
+completion (More x e) = completion_end e
+completion (Separated x e) = completion x ++ completion_end e
+completion (Listed x e) = completion_end e
+completion (Applied p) = word 0 (prefix_word p) ∷ sign 0 s.OpenParen ∷ a_name ∷ sign 0 s.CloseParen ∷ []
+completion (Injected d) = word 0 (side_word d) ∷ sign 0 s.OpenBracket ∷ word 0 w.Int ∷ sign 0 s.CloseBracket ∷ sign 0 s.OpenParen ∷ a_name ∷ sign 0 s.CloseParen ∷ []
 completion Ty = word 0 w.Int ∷ []
+completion SimpleTy = word 0 w.Int ∷ []
+completion ThreadTy = word 0 w.Thread ∷ sign 0 s.OpenBracket ∷ a_name ∷ sign 0 s.CloseBracket ∷ sign 0 s.OpenParen ∷ word 0 w.Int ∷ sign 0 s.CloseParen ∷ []
+completion PairedTy = sign 0 s.OpenParen ∷ word 0 w.Int ∷ sign 0 s.Star ∷ word 0 w.Int ∷ sign 0 s.CloseParen ∷ []
+completion TyMid = sign 0 s.Star ∷ []
+completion Expr = a_name ∷ []
+completion Leaf = a_name ∷ []
+completion Opened = sign 0 s.OpenParen ∷ sign 0 s.CloseParen ∷ []
+completion Inside = sign 0 s.CloseParen ∷ []
+completion Bracketed = a_name ∷ sign 0 s.CloseParen ∷ []
+completion Behind = sign 0 s.CloseParen ∷ []
+completion Joined = sign 0 s.Comma ∷ a_name ∷ sign 0 s.CloseParen ∷ []
+completion AJoint = sign 0 s.Comma ∷ []
 completion Block = sign 0 s.OpenBrace ∷ word 0 w.Ret ∷ a_name ∷ sign 0 s.CloseBrace ∷ []
 completion Binds = word 0 w.Ret ∷ a_name ∷ sign 0 s.CloseBrace ∷ []
 completion Bind = a_name ∷ sign 0 s.Arrow ∷ word 0 w.Ret ∷ a_name ∷ sign 0 s.Semicolon ∷ []
 completion Tail = word 0 w.Ret ∷ a_name ∷ []
+completion Give = word 0 w.Ret ∷ a_name ∷ []
+completion Branch = word 0 w.If ∷ a_name ∷ sign 0 s.OpenBrace ∷ word 0 w.Ret ∷ a_name ∷ sign 0 s.CloseBrace ∷ word 0 w.Else ∷ sign 0 s.OpenBrace ∷ word 0 w.Ret ∷ a_name ∷ sign 0 s.CloseBrace ∷ []
+completion Split = word 0 w.Case ∷ a_name ∷ word 0 w.Inl ∷ a_name ∷ sign 0 s.OpenBrace ∷ word 0 w.Ret ∷ a_name ∷ sign 0 s.CloseBrace ∷ word 0 w.Inr ∷ a_name ∷ sign 0 s.OpenBrace ∷ word 0 w.Ret ∷ a_name ∷ sign 0 s.CloseBrace ∷ []
 completion Action = word 0 w.Ret ∷ a_name ∷ []
 completion Returned = word 0 w.Ret ∷ a_name ∷ []
 completion Spawn = word 0 w.Spawn ∷ sign 0 s.OpenBracket ∷ a_name ∷ sign 0 s.CloseBracket ∷ sign 0 s.OpenBrace ∷ word 0 w.Ret ∷ a_name ∷ sign 0 s.CloseBrace ∷ []
 completion Sync = word 0 w.Sync ∷ a_name ∷ []
-completion Expr = a_name ∷ []
+completion Call = word 0 w.Call ∷ a_name ∷ sign 0 s.OpenParen ∷ sign 0 s.CloseParen ∷ []
+completion Run = word 0 w.Do ∷ sign 0 s.OpenBrace ∷ word 0 w.Ret ∷ a_name ∷ sign 0 s.CloseBrace ∷ []
+completion Input = word 0 w.Input ∷ []
+completion Output = word 0 w.Output ∷ a_name ∷ []
+completion CallOpen = sign 0 s.OpenParen ∷ []
+completion CallPriorities = sign 0 s.OpenBracket ∷ sign 0 s.CloseBracket ∷ sign 0 s.OpenParen ∷ []
+completion Program = word 0 w.Main ∷ word 0 w.At ∷ a_name ∷ sign 0 s.Colon ∷ word 0 w.Int ∷ sign 0 s.OpenBrace ∷ word 0 w.Ret ∷ a_name ∷ sign 0 s.CloseBrace ∷ []
+completion Priority = word 0 w.Priority ∷ a_name ∷ sign 0 s.Semicolon ∷ []
+completion Order = word 0 w.Order ∷ a_name ∷ sign 0 s.Less ∷ a_name ∷ sign 0 s.Semicolon ∷ []
+completion Procedure = word 0 w.Proc ∷ a_name ∷ sign 0 s.OpenParen ∷ sign 0 s.CloseParen ∷ word 0 w.At ∷ a_name ∷ sign 0 s.Colon ∷ word 0 w.Int ∷ sign 0 s.OpenBrace ∷ word 0 w.Ret ∷ a_name ∷ sign 0 s.CloseBrace ∷ []
+completion Main = word 0 w.Main ∷ word 0 w.At ∷ a_name ∷ sign 0 s.Colon ∷ word 0 w.Int ∷ sign 0 s.OpenBrace ∷ word 0 w.Ret ∷ a_name ∷ sign 0 s.CloseBrace ∷ []
+completion Routine = word 0 w.At ∷ a_name ∷ sign 0 s.Colon ∷ word 0 w.Int ∷ sign 0 s.OpenBrace ∷ word 0 w.Ret ∷ a_name ∷ sign 0 s.CloseBrace ∷ []
+completion HeadOpen = sign 0 s.OpenParen ∷ []
+completion HeadVariables = sign 0 s.OpenBracket ∷ sign 0 s.CloseBracket ∷ sign 0 s.OpenParen ∷ []
+completion HeadEnd = sign 0 s.CloseBracket ∷ sign 0 s.OpenParen ∷ []
+completion HeadClose = sign 0 s.CloseBracket ∷ sign 0 s.OpenParen ∷ []
+completion HeadGiven = sign 0 s.Semicolon ∷ a_name ∷ sign 0 s.AtMost ∷ a_name ∷ sign 0 s.CloseBracket ∷ sign 0 s.OpenParen ∷ []
+completion Given = a_name ∷ sign 0 s.AtMost ∷ a_name ∷ []
+completion m.Parameter = a_name ∷ sign 0 s.Colon ∷ word 0 w.Int ∷ []
 
 abbrev completions : List Symbol → List Token
 completions [] = []
 completions (x ∷ xs) = completion x ++ completions xs
 
-sign_itself : (x : Sign) → (sign_number x == sign_number x) ≡ true
+word_itself : (x : Word) → is_word x (k.Word x) ≡ true
+word_itself x = grind (arith, nat_tests)
+
+sign_itself : (x : Sign) → is_sign x (k.Sign x) ≡ true
 sign_itself x = grind (arith, nat_tests)
 
-word_itself : (x : Word) → (word_number x == word_number x) ≡ true
-word_itself x = grind (arith, nat_tests)
+end_completes : (e : End) (xs : List Symbol) (ts : List Token) → halt (AtEnd e ∷ xs) (completion_end e ++ ts) ≡ halt xs ts
+unfolding halt
+end_completes parens xs ts = refl
+end_completes brackets xs ts = refl
+end_completes variables xs ts = refl
+
+more_completes : (x : Symbol) (e : End) (xs : List Symbol) (ts : List Token) → halt (More x e ∷ xs) (completion_end e ++ ts) ≡ halt xs ts
+unfolding halt
+more_completes x parens xs ts = refl
+more_completes x brackets xs ts = refl
+more_completes x variables xs ts = refl
+
+listed_completes : (x : Symbol) (e : End) (xs : List Symbol) (ts : List Token) → halt (Listed x e ∷ xs) (completion_end e ++ ts) ≡ halt xs ts
+unfolding halt
+listed_completes x parens xs ts = refl
+listed_completes x brackets xs ts = refl
+listed_completes x variables xs ts = refl
 
 completes : (x : Symbol) (xs : List Symbol) (ts : List Token) → halt (x ∷ xs) (completion x ++ ts) ≡ halt xs ts
 unfolding halt
 completes (AWord x) xs ts = ap (λ b. go_on (cond b (Some []) None) xs (word 0 x ∷ ts) (λ ys. halt ys ts)) (word_itself x)
 completes (ASign x) xs ts = ap (λ b. go_on (cond b (Some []) None) xs (sign 0 x ∷ ts) (λ ys. halt ys ts)) (sign_itself x)
+completes (AtEnd e) xs ts = end_completes e xs ts
+completes (BehindComma x) xs ts = completes x xs ts
+completes (More x e) xs ts = more_completes x e xs ts
+completes (Separated x e) xs ts =
+    halt-separated x e xs _ ∙ ap (halt (x ∷ More x e ∷ xs)) (append_assoc (completion x) (completion_end e) ts) ∙ completes x (More x e ∷ xs) (completion_end e ++ ts) ∙ more_completes x e xs ts
+completes (Listed x e) xs ts = listed_completes x e xs ts
+completes (Applied prefix.First) xs ts = refl
+completes (Applied prefix.Second) xs ts = refl
+completes (Applied prefix.Negated) xs ts = refl
+completes (Injected side.Left) xs ts = refl
+completes (Injected side.Right) xs ts = refl
 completes _ xs ts = refl
 
 completed : (xs : List Symbol) → halt xs (completions xs) ≡ None

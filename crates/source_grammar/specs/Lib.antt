@@ -1,5 +1,7 @@
+pub mod Ends
 pub mod Faults
 pub mod Grammar
+pub mod Joined
 pub mod Lists
 pub mod Machine
 pub mod Next

@@ -1,5 +1,5 @@
 -- The forms by their first token: what has to follow it.
-use Rattle.std.specs.Prelude.{ℕ, List, [], ◌∷◌, ◌++◌, Option, Some, None, cond, ◌==◌}
+use Rattle.std.specs.Prelude.{List, [], ◌∷◌, ◌++◌, Option, Some, None, cond}
 use Rattle.source_tokens.specs.declared.token.Token.{Token}
 use Rattle.source_tokens.specs.declared.token.Kind.{Kind}
 use Rattle.source_tokens.specs.declared.token.Kind.TheVariants as k
@@ -7,171 +7,311 @@ use Rattle.source_tokens.specs.declared.token.Word.{Word}
 use Rattle.source_tokens.specs.declared.token.Word.TheVariants as w
 use Rattle.source_tokens.specs.declared.token.Sign.{Sign}
 use Rattle.source_tokens.specs.declared.token.Sign.TheVariants as s
+use Rattle.source_grammar.specs.declared.choice.TyForm.{TyForm}
+use Rattle.source_grammar.specs.declared.choice.TyForm.TheVariants as ty
+use Rattle.source_grammar.specs.declared.choice.Prefix.{Prefix}
+use Rattle.source_grammar.specs.declared.choice.Side.{Side}
+use Rattle.source_grammar.specs.declared.choice.ExprForm.{ExprForm}
+use Rattle.source_grammar.specs.declared.choice.ExprForm.TheVariants as expr
+use Rattle.source_grammar.specs.declared.choice.ActionForm.{ActionForm}
+use Rattle.source_grammar.specs.declared.choice.ActionForm.TheVariants as action
+use Rattle.source_grammar.specs.declared.choice.TailForm.{TailForm}
+use Rattle.source_grammar.specs.declared.choice.TailForm.TheVariants as tail
+use Rattle.source_grammar.specs.declared.choice.DeclarationForm.{DeclarationForm}
+use Rattle.source_grammar.specs.declared.choice.DeclarationForm.TheVariants as decl
+use Rattle.source_grammar.specs.Next.{is_name, is_word, is_sign, ty_form, mid_form, prefix_word, side_word, expr_form, joint_form, action_form, tail_form, declaration_form}
 
--- what is still to come: one token, or a form
+-- what comes behind a list with commas: `)`, `]`, or what ends the priority variables of a procedure
+pub data End : Type 0 where
+  parens brackets variables : End
+
+-- What is still to come: one token, or a form. A list has its end with it: `Listed x e` is none or more of `x` with commas between and then the end,
+-- `Separated x e` is one or more of them, and `More x e` is what comes behind one: a comma and another, `BehindComma x`, or the end.
 pub data Symbol : Type 0 where
   AName : Symbol
   AWord : Word → Symbol
   ASign : Sign → Symbol
-  Program : Symbol
-  Priority : Symbol
-  Order : Symbol
-  Main : Symbol
-  Ty : Symbol
-  Block : Symbol
-  Binds : Symbol
-  Bind : Symbol
-  Tail : Symbol
-  Action : Symbol
-  Returned : Symbol
-  Spawn : Symbol
-  Sync : Symbol
-  Expr : Symbol
+  AtEnd : End → Symbol
+  BehindComma : Symbol → Symbol
+  More Separated Listed : Symbol → End → Symbol
+  Ty SimpleTy ThreadTy PairedTy TyMid : Symbol
+  Expr Leaf Opened Inside Bracketed Behind Joined AJoint : Symbol
+  Applied : Prefix → Symbol
+  Injected : Side → Symbol
+  Block Binds Bind Tail Give Branch Split : Symbol
+  Action Returned Spawn Sync Call Run Input Output CallOpen CallPriorities : Symbol
+  Program Priority Order Procedure Main Routine HeadOpen HeadVariables HeadEnd HeadClose HeadGiven Given Parameter : Symbol
 
-abbrev pub word_number : Word → ℕ
-word_number w.Priority = 0
-word_number w.Order = 1
-word_number w.Proc = 2
-word_number w.Main = 3
-word_number w.At = 4
-word_number w.Ret = 5
-word_number w.Spawn = 6
-word_number w.Sync = 7
-word_number w.Call = 8
-word_number w.Do = 9
-word_number w.Input = 10
-word_number w.Output = 11
-word_number w.If = 12
-word_number w.Else = 13
-word_number w.Case = 14
-word_number w.Inl = 15
-word_number w.Inr = 16
-word_number w.Fst = 17
-word_number w.Snd = 18
-word_number w.Not = 19
-word_number w.And = 20
-word_number w.Or = 21
-word_number w.True = 22
-word_number w.False = 23
-word_number w.Unit = 24
-word_number w.Bool = 25
-word_number w.Int = 26
-word_number w.Thread = 27
+-- other symbols behind what comes first
+abbrev pub and_then : List Symbol → Option (List Symbol) → Option (List Symbol)
+and_then zs None = None
+and_then zs (Some us) = Some (us ++ zs)
 
-abbrev pub sign_number : Sign → ℕ
-sign_number s.Arrow = 0
-sign_number s.AtMost = 1
-sign_number s.Equal = 2
-sign_number s.Less = 3
-sign_number s.Plus = 4
-sign_number s.Minus = 5
-sign_number s.Star = 6
-sign_number s.Slash = 7
-sign_number s.Percent = 8
-sign_number s.OpenParen = 9
-sign_number s.CloseParen = 10
-sign_number s.OpenBrace = 11
-sign_number s.CloseBrace = 12
-sign_number s.OpenBracket = 13
-sign_number s.CloseBracket = 14
-sign_number s.Comma = 15
-sign_number s.Semicolon = 16
-sign_number s.Colon = 17
+-- the first of two that there is
+abbrev pub or_else : Option (List Symbol) → Option (List Symbol) → Option (List Symbol)
+or_else (Some us) o = Some us
+or_else None o = o
+
+-- by the form, if there is one
+abbrev pub by_form : {F : Type 0} → Option F → (F → Option (List Symbol)) → Option (List Symbol) → Option (List Symbol)
+by_form (Some f) here other = here f
+by_form None here other = other
 
 abbrev pub rule_name : Kind → Option (List Symbol)
-rule_name (k.Name n) = Some []
-rule_name _ = None
+rule_name kind = cond (is_name kind) (Some []) None
 
 abbrev pub rule_word : Word → Kind → Option (List Symbol)
-rule_word x (k.Word y) = cond (word_number x == word_number y) (Some []) None
-rule_word x _ = None
+rule_word x kind = cond (is_word x kind) (Some []) None
 
 abbrev pub rule_sign : Sign → Kind → Option (List Symbol)
-rule_sign x (k.Sign y) = cond (sign_number x == sign_number y) (Some []) None
-rule_sign x _ = None
+rule_sign x kind = cond (is_sign x kind) (Some []) None
 
-abbrev pub rule_program : Kind → Option (List Symbol)
-rule_program (k.Word w.Priority) = Some (AName ∷ ASign s.Semicolon ∷ Program ∷ [])
-rule_program (k.Word w.Order) = Some (AName ∷ ASign s.Less ∷ AName ∷ ASign s.Semicolon ∷ Program ∷ [])
-rule_program (k.Word w.Main) = Some (AWord w.At ∷ AName ∷ ASign s.Colon ∷ Ty ∷ Block ∷ [])
-rule_program _ = None
+-- Lists.
+-- a given pair behind the priority variables of a procedure, and what ends the pairs
+abbrev pub rule_head_given : Kind → Option (List Symbol)
+rule_head_given kind = and_then (Separated Given brackets ∷ ASign s.OpenParen ∷ []) (rule_sign s.Semicolon kind)
 
-abbrev pub rule_priority : Kind → Option (List Symbol)
-rule_priority (k.Word w.Priority) = Some (AName ∷ ASign s.Semicolon ∷ [])
-rule_priority _ = None
+abbrev pub rule_head_close : Kind → Option (List Symbol)
+rule_head_close kind = and_then (ASign s.OpenParen ∷ []) (rule_sign s.CloseBracket kind)
 
-abbrev pub rule_order : Kind → Option (List Symbol)
-rule_order (k.Word w.Order) = Some (AName ∷ ASign s.Less ∷ AName ∷ ASign s.Semicolon ∷ [])
-rule_order _ = None
+-- what ends the priority variables of a procedure
+abbrev pub rule_head_end : Kind → Option (List Symbol)
+rule_head_end kind = cond (is_sign s.CloseBracket kind) (rule_head_close kind) (rule_head_given kind)
 
-abbrev pub rule_main : Kind → Option (List Symbol)
-rule_main (k.Word w.Main) = Some (AWord w.At ∷ AName ∷ ASign s.Colon ∷ Ty ∷ Block ∷ [])
-rule_main _ = None
+abbrev pub rule_end : End → Kind → Option (List Symbol)
+rule_end parens kind = rule_sign s.CloseParen kind
+rule_end brackets kind = rule_sign s.CloseBracket kind
+rule_end variables kind = rule_head_end kind
+
+abbrev pub rule_more : Symbol → End → Kind → Option (List Symbol)
+rule_more x e kind = cond (is_sign s.Comma kind) (Some (x ∷ More x e ∷ [])) (rule_end e kind)
+
+-- Types.
+abbrev pub rule_simple_ty : Kind → Option (List Symbol)
+rule_simple_ty (k.Word w.Unit) = Some []
+rule_simple_ty (k.Word w.Bool) = Some []
+rule_simple_ty (k.Word w.Int) = Some []
+rule_simple_ty _ = None
+
+abbrev pub rule_thread_ty : Kind → Option (List Symbol)
+rule_thread_ty kind = and_then (ASign s.OpenBracket ∷ AName ∷ ASign s.CloseBracket ∷ ASign s.OpenParen ∷ Ty ∷ ASign s.CloseParen ∷ []) (rule_word w.Thread kind)
+
+abbrev pub rule_paired_ty : Kind → Option (List Symbol)
+rule_paired_ty kind = and_then (Ty ∷ TyMid ∷ Ty ∷ ASign s.CloseParen ∷ []) (rule_sign s.OpenParen kind)
+
+abbrev pub rule_ty_mid : Kind → Option (List Symbol)
+rule_ty_mid kind = by_form (mid_form kind) (λ m. Some []) None
+
+abbrev pub rule_ty_form : Kind → TyForm → Option (List Symbol)
+rule_ty_form kind ty.Simple = rule_simple_ty kind
+rule_ty_form kind ty.Thread = rule_thread_ty kind
+rule_ty_form kind ty.Paired = rule_paired_ty kind
 
 abbrev pub rule_ty : Kind → Option (List Symbol)
-rule_ty (k.Word w.Int) = Some []
-rule_ty _ = None
+rule_ty kind = by_form (ty_form kind) (rule_ty_form kind) None
 
+-- Expressions.
+abbrev pub rule_leaf : Kind → Option (List Symbol)
+rule_leaf (k.Name n) = Some []
+rule_leaf (k.Number n) = Some []
+rule_leaf (k.Word w.True) = Some []
+rule_leaf (k.Word w.False) = Some []
+rule_leaf _ = None
+
+abbrev pub rule_opened : Kind → Option (List Symbol)
+rule_opened kind = and_then (Inside ∷ []) (rule_sign s.OpenParen kind)
+
+abbrev pub rule_applied : Prefix → Kind → Option (List Symbol)
+rule_applied p kind = and_then (ASign s.OpenParen ∷ Expr ∷ ASign s.CloseParen ∷ []) (rule_word (prefix_word p) kind)
+
+abbrev pub rule_injected : Side → Kind → Option (List Symbol)
+rule_injected d kind = and_then (ASign s.OpenBracket ∷ Ty ∷ ASign s.CloseBracket ∷ ASign s.OpenParen ∷ Expr ∷ ASign s.CloseParen ∷ []) (rule_word (side_word d) kind)
+
+abbrev pub rule_expr_form : Kind → ExprForm → Option (List Symbol)
+rule_expr_form kind expr.Leaf = rule_leaf kind
+rule_expr_form kind expr.Opened = rule_opened kind
+rule_expr_form kind (expr.Applied p) = rule_applied p kind
+rule_expr_form kind (expr.Injected d) = rule_injected d kind
+
+abbrev pub rule_expr : Kind → Option (List Symbol)
+rule_expr kind = by_form (expr_form kind) (rule_expr_form kind) None
+
+abbrev pub rule_bracketed : Kind → Option (List Symbol)
+rule_bracketed kind = and_then (Behind ∷ []) (rule_expr kind)
+
+-- behind an opening bracket
+abbrev pub rule_inside : Kind → Option (List Symbol)
+rule_inside kind = cond (is_sign s.CloseParen kind) (Some []) (rule_bracketed kind)
+
+abbrev pub rule_joint : Kind → Option (List Symbol)
+rule_joint kind = by_form (joint_form kind) (λ j. Some []) None
+
+abbrev pub rule_joined : Kind → Option (List Symbol)
+rule_joined kind = and_then (Expr ∷ ASign s.CloseParen ∷ []) (rule_joint kind)
+
+-- behind an opening bracket and an expression
+abbrev pub rule_behind : Kind → Option (List Symbol)
+rule_behind kind = cond (is_sign s.CloseParen kind) (Some []) (rule_joined kind)
+
+-- Blocks.
 abbrev pub rule_block : Kind → Option (List Symbol)
-rule_block (k.Sign s.OpenBrace) = Some (Binds ∷ [])
-rule_block _ = None
+rule_block kind = and_then (Binds ∷ []) (rule_sign s.OpenBrace kind)
+
+abbrev pub rule_bind : Kind → Option (List Symbol)
+rule_bind kind = and_then (ASign s.Arrow ∷ Action ∷ ASign s.Semicolon ∷ []) (rule_name kind)
+
+abbrev pub rule_give : Kind → Option (List Symbol)
+rule_give kind = and_then (Expr ∷ []) (rule_word w.Ret kind)
+
+abbrev pub rule_branch : Kind → Option (List Symbol)
+rule_branch kind = and_then (Expr ∷ Block ∷ AWord w.Else ∷ Block ∷ []) (rule_word w.If kind)
+
+abbrev pub rule_split : Kind → Option (List Symbol)
+rule_split kind = and_then (Expr ∷ AWord w.Inl ∷ AName ∷ Block ∷ AWord w.Inr ∷ AName ∷ Block ∷ []) (rule_word w.Case kind)
+
+abbrev pub rule_tail_form : Kind → TailForm → Option (List Symbol)
+rule_tail_form kind tail.Give = rule_give kind
+rule_tail_form kind tail.Branch = rule_branch kind
+rule_tail_form kind tail.Split = rule_split kind
+
+abbrev pub rule_tail : Kind → Option (List Symbol)
+rule_tail kind = by_form (tail_form kind) (rule_tail_form kind) None
 
 -- bound actions, an ending and the closing brace
 abbrev pub rule_binds : Kind → Option (List Symbol)
-rule_binds (k.Name n) = Some (ASign s.Arrow ∷ Action ∷ ASign s.Semicolon ∷ Binds ∷ [])
-rule_binds (k.Word w.Ret) = Some (Expr ∷ ASign s.CloseBrace ∷ [])
-rule_binds _ = None
-
-abbrev pub rule_bind : Kind → Option (List Symbol)
-rule_bind (k.Name n) = Some (ASign s.Arrow ∷ Action ∷ ASign s.Semicolon ∷ [])
-rule_bind _ = None
-
-abbrev pub rule_tail : Kind → Option (List Symbol)
-rule_tail (k.Word w.Ret) = Some (Expr ∷ [])
-rule_tail _ = None
-
-abbrev pub rule_action : Kind → Option (List Symbol)
-rule_action (k.Word w.Ret) = Some (Expr ∷ [])
-rule_action (k.Word w.Spawn) = Some (ASign s.OpenBracket ∷ AName ∷ ASign s.CloseBracket ∷ Block ∷ [])
-rule_action (k.Word w.Sync) = Some (AName ∷ [])
-rule_action _ = None
-
-abbrev pub rule_returned : Kind → Option (List Symbol)
-rule_returned (k.Word w.Ret) = Some (Expr ∷ [])
-rule_returned _ = None
+rule_binds kind = cond (is_name kind) (and_then (Binds ∷ []) (rule_bind kind)) (and_then (ASign s.CloseBrace ∷ []) (rule_tail kind))
 
 abbrev pub rule_spawn : Kind → Option (List Symbol)
-rule_spawn (k.Word w.Spawn) = Some (ASign s.OpenBracket ∷ AName ∷ ASign s.CloseBracket ∷ Block ∷ [])
-rule_spawn _ = None
+rule_spawn kind = and_then (ASign s.OpenBracket ∷ AName ∷ ASign s.CloseBracket ∷ Block ∷ []) (rule_word w.Spawn kind)
 
 abbrev pub rule_sync : Kind → Option (List Symbol)
-rule_sync (k.Word w.Sync) = Some (AName ∷ [])
-rule_sync _ = None
+rule_sync kind = and_then (AName ∷ []) (rule_word w.Sync kind)
 
-abbrev pub rule_expr : Kind → Option (List Symbol)
-rule_expr (k.Name n) = Some []
-rule_expr (k.Number n) = Some []
-rule_expr _ = None
+abbrev pub rule_call : Kind → Option (List Symbol)
+rule_call kind = and_then (AName ∷ CallOpen ∷ Listed Expr parens ∷ []) (rule_word w.Call kind)
+
+abbrev pub rule_run : Kind → Option (List Symbol)
+rule_run kind = and_then (Block ∷ []) (rule_word w.Do kind)
+
+abbrev pub rule_output : Kind → Option (List Symbol)
+rule_output kind = and_then (Expr ∷ []) (rule_word w.Output kind)
+
+abbrev pub rule_action_form : Kind → ActionForm → Option (List Symbol)
+rule_action_form kind action.Returned = rule_give kind
+rule_action_form kind action.Spawn = rule_spawn kind
+rule_action_form kind action.Sync = rule_sync kind
+rule_action_form kind action.Call = rule_call kind
+rule_action_form kind action.Run = rule_run kind
+rule_action_form kind action.Input = rule_word w.Input kind
+rule_action_form kind action.Output = rule_output kind
+
+abbrev pub rule_action : Kind → Option (List Symbol)
+rule_action kind = by_form (action_form kind) (rule_action_form kind) None
+
+-- the priorities of a call, and the bracket of its arguments
+abbrev pub rule_call_priorities : Kind → Option (List Symbol)
+rule_call_priorities kind = and_then (Listed AName brackets ∷ ASign s.OpenParen ∷ []) (rule_sign s.OpenBracket kind)
+
+abbrev pub rule_call_open : Kind → Option (List Symbol)
+rule_call_open kind = cond (is_sign s.OpenParen kind) (Some []) (rule_call_priorities kind)
+
+-- Declarations.
+abbrev pub rule_priority : Kind → Option (List Symbol)
+rule_priority kind = and_then (AName ∷ ASign s.Semicolon ∷ []) (rule_word w.Priority kind)
+
+abbrev pub rule_order : Kind → Option (List Symbol)
+rule_order kind = and_then (AName ∷ ASign s.Less ∷ AName ∷ ASign s.Semicolon ∷ []) (rule_word w.Order kind)
+
+-- the variables and the given pairs of a procedure, and the bracket of its parameters
+abbrev pub rule_head_variables : Kind → Option (List Symbol)
+rule_head_variables kind = and_then (Listed AName variables ∷ []) (rule_sign s.OpenBracket kind)
+
+abbrev pub rule_head_open : Kind → Option (List Symbol)
+rule_head_open kind = cond (is_sign s.OpenParen kind) (Some []) (rule_head_variables kind)
+
+abbrev pub rule_given : Kind → Option (List Symbol)
+rule_given kind = and_then (ASign s.AtMost ∷ AName ∷ []) (rule_name kind)
+
+abbrev pub rule_parameter : Kind → Option (List Symbol)
+rule_parameter kind = and_then (ASign s.Colon ∷ Ty ∷ []) (rule_name kind)
+
+abbrev pub rule_procedure : Kind → Option (List Symbol)
+rule_procedure kind = and_then (AName ∷ HeadOpen ∷ Listed Parameter parens ∷ Routine ∷ []) (rule_word w.Proc kind)
+
+abbrev pub rule_routine : Kind → Option (List Symbol)
+rule_routine kind = and_then (AName ∷ ASign s.Colon ∷ Ty ∷ Block ∷ []) (rule_word w.At kind)
+
+abbrev pub rule_main : Kind → Option (List Symbol)
+rule_main kind = and_then (Routine ∷ []) (rule_word w.Main kind)
+
+abbrev pub rule_declaration_form : Kind → DeclarationForm → Option (List Symbol)
+rule_declaration_form kind decl.Priority = rule_priority kind
+rule_declaration_form kind decl.Order = rule_order kind
+rule_declaration_form kind decl.Procedure = rule_procedure kind
+
+abbrev pub rule_program : Kind → Option (List Symbol)
+rule_program kind = by_form (declaration_form kind) (λ f. and_then (Program ∷ []) (rule_declaration_form kind f)) (rule_main kind)
+
+abbrev pub declaration_symbol : DeclarationForm → Symbol
+declaration_symbol decl.Priority = Priority
+declaration_symbol decl.Order = Order
+declaration_symbol decl.Procedure = Procedure
 
 -- what has to follow a token of this kind, for the symbol to begin with it; none where the symbol cannot
 abbrev pub rule : Symbol → Kind → Option (List Symbol)
-rule AName = rule_name
-rule (AWord x) = rule_word x
-rule (ASign x) = rule_sign x
-rule Program = rule_program
-rule Priority = rule_priority
-rule Order = rule_order
-rule Main = rule_main
-rule Ty = rule_ty
-rule Block = rule_block
-rule Binds = rule_binds
-rule Bind = rule_bind
-rule Tail = rule_tail
-rule Action = rule_action
-rule Returned = rule_returned
-rule Spawn = rule_spawn
-rule Sync = rule_sync
-rule Expr = rule_expr
+rule AName kind = rule_name kind
+rule (AWord x) kind = rule_word x kind
+rule (ASign x) kind = rule_sign x kind
+rule (AtEnd e) kind = rule_end e kind
+rule (BehindComma x) kind = and_then (x ∷ []) (rule_sign s.Comma kind)
+rule (More x e) kind = rule_more x e kind
+rule (Separated x e) kind = and_then (More x e ∷ []) (rule x kind)
+rule (Listed x e) kind = or_else (rule_end e kind) (and_then (More x e ∷ []) (rule x kind))
+rule Ty kind = rule_ty kind
+rule SimpleTy kind = rule_simple_ty kind
+rule ThreadTy kind = rule_thread_ty kind
+rule PairedTy kind = rule_paired_ty kind
+rule TyMid kind = rule_ty_mid kind
+rule Expr kind = rule_expr kind
+rule Leaf kind = rule_leaf kind
+rule Opened kind = rule_opened kind
+rule Inside kind = rule_inside kind
+rule Bracketed kind = rule_bracketed kind
+rule Behind kind = rule_behind kind
+rule Joined kind = rule_joined kind
+rule AJoint kind = rule_joint kind
+rule (Applied p) kind = rule_applied p kind
+rule (Injected d) kind = rule_injected d kind
+rule Block kind = rule_block kind
+rule Binds kind = rule_binds kind
+rule Bind kind = rule_bind kind
+rule Tail kind = rule_tail kind
+rule Give kind = rule_give kind
+rule Branch kind = rule_branch kind
+rule Split kind = rule_split kind
+rule Action kind = rule_action kind
+rule Returned kind = rule_give kind
+rule Spawn kind = rule_spawn kind
+rule Sync kind = rule_sync kind
+rule Call kind = rule_call kind
+rule Run kind = rule_run kind
+rule Input kind = rule_word w.Input kind
+rule Output kind = rule_output kind
+rule CallOpen kind = rule_call_open kind
+rule CallPriorities kind = rule_call_priorities kind
+rule Program kind = rule_program kind
+rule Priority kind = rule_priority kind
+rule Order kind = rule_order kind
+rule Procedure kind = rule_procedure kind
+rule Main kind = rule_main kind
+rule Routine kind = rule_routine kind
+rule HeadOpen kind = rule_head_open kind
+rule HeadVariables kind = rule_head_variables kind
+rule HeadEnd kind = rule_head_end kind
+rule HeadClose kind = rule_head_close kind
+rule HeadGiven kind = rule_head_given kind
+rule Given kind = rule_given kind
+rule Parameter kind = rule_parameter kind
 
 abbrev pub go_on : Option (List Symbol) → List Symbol → List Token → (List Symbol → Option (List Token)) → Option (List Token)
 go_on None xs here next = Some here

@@ -1,15 +1,17 @@
-//! Blocks and actions.
+//! Blocks.
 
 ghost use Rattle.std.specs.Prelude.{◌≡◌, ◌++◌, OnOk, ◌∷◌, [], IfOk, ◌≤◌, ◌<◌, length};
-ghost use Rattle.source_tokens.specs.declared.token.Sign.TheVariants as sign;
+ghost use Rattle.source_tokens.specs.declared.token.Sign.TheVariants as a_sign;
 ghost use Rattle.source_grammar.specs.Grammar.{IsAction, IsBlock, IsBody};
 ghost use Rattle.source_grammar.specs.Lists.{body_of};
-ghost use Rattle.source_grammar.specs.Machine.{ASign, Action, Bind, Binds, Block, Returned, Spawn, Sync, Tail};
+ghost use Rattle.source_grammar.specs.Machine.{ASign, Action, Bind, Binds, Block, Branch, Run, Spawn, Split, Tail};
 ghost use Rattle.source_grammar.specs.RawRead.{read_action, read_block, read_tail};
 ghost use Rattle.source_grammar.specs.RawTree.{RawBody};
 ghost use Rattle.source_grammar.specs.Stops.{Moves, MovesTo};
 
-use crate::cursor::{ActionForm, Stop, Tokens};
+use crate::action::{call, give, input, output, returned, sync};
+use crate::choice::{ActionForm, TailForm};
+use crate::cursor::{Stop, Tokens};
 use crate::expr::expr;
 use crate::raw::{RawAction, RawBind, RawBlock, RawTail, RawTailForm};
 use source_tokens::token::{Sign, Word};
@@ -17,7 +19,7 @@ use std::alloc::{AllocError, Global};
 
 /// A block in braces.
 #[cycle(block)]
-#[tactic(auto, using(crate::proofs::Steps::steps, crate::proofs::Forms::forms))]
+#[tactic(auto, using(crate::proofs::BlockSteps::steps, crate::proofs::BlockForms::forms))]
 pub fn block(alloc: Global, tokens: &mut Tokens) -> Result<RawBlock, Stop>
     ensures ok { IfOk result (λ b. IsBlock tokens.old tokens.new (read_block b)) }
     ensures moves { Moves Block tokens.old tokens.new result }
@@ -25,18 +27,18 @@ pub fn block(alloc: Global, tokens: &mut Tokens) -> Result<RawBlock, Stop>
 {
     let at = tokens.expect_sign(Sign::OpenBrace)?;
     let binds = binds(alloc, tokens)?;
-    let tail = tail(tokens)?;
+    let tail = tail(alloc, tokens)?;
     tokens.expect_sign(Sign::CloseBrace)?;
     Ok(RawBlock { at, binds, tail })
 }
 
 /// The bound actions of a block, as far as names come.
 #[cycle(block)]
-#[tactic(auto, using(crate::proofs::Steps::steps, crate::proofs::Forms::forms))]
+#[tactic(auto, using(crate::proofs::BlockSteps::steps, crate::proofs::BlockForms::forms))]
 fn binds(alloc: Global, tokens: &mut Tokens) -> Result<Vec<RawBind>, Stop>
     ensures ok { IfOk result
         (λ bs. (rest : _) (body : RawBody) → IsBody tokens.new rest body → IsBody tokens.old rest (body_of bs.items body)) }
-    ensures moves { MovesTo Binds (Tail ∷ ASign sign.CloseBrace ∷ []) tokens.old tokens.new result }
+    ensures moves { MovesTo Binds (Tail ∷ ASign a_sign.CloseBrace ∷ []) tokens.old tokens.new result }
     ensures shorter { IfOk result (λ _. length tokens.new ≤ length tokens.old) }
 {
     let mut binds = Vec::new(alloc);
@@ -49,7 +51,7 @@ fn binds(alloc: Global, tokens: &mut Tokens) -> Result<Vec<RawBind>, Stop>
 
 /// A bound action, which begins with a name.
 #[cycle(block)]
-#[tactic(auto, using(crate::proofs::Steps::steps, crate::proofs::Forms::forms))]
+#[tactic(auto, using(crate::proofs::BlockSteps::steps, crate::proofs::BlockForms::forms))]
 fn bind(alloc: Global, tokens: &mut Tokens) -> Result<RawBind, Stop>
     ensures ok { IfOk result
         (λ b. (rest : _) (body : RawBody) → IsBody tokens.new rest body → IsBody tokens.old rest (body_of (b ∷ []) body)) }
@@ -65,33 +67,26 @@ fn bind(alloc: Global, tokens: &mut Tokens) -> Result<RawBind, Stop>
 
 /// An action, with the offset of its word.
 #[cycle(block)]
-#[tactic(auto, using(crate::proofs::Steps::choices))]
+#[tactic(auto, using(crate::proofs::BlockSteps::choices))]
 fn action(alloc: Global, tokens: &mut Tokens) -> Result<(u64, RawAction), Stop>
     ensures ok { IfOk result (λ a. IsAction tokens.old tokens.new a.0 (read_action a.1)) }
     ensures moves { Moves Action tokens.old tokens.new result }
     ensures shorter { IfOk result (λ _. length tokens.new < length tokens.old) }
 {
     match tokens.action_form() {
-        Some(ActionForm::Returned) => returned(tokens),
+        Some(ActionForm::Returned) => returned(alloc, tokens),
         Some(ActionForm::Spawn) => spawn(alloc, tokens),
         Some(ActionForm::Sync) => sync(tokens),
+        Some(ActionForm::Call) => call(alloc, tokens),
+        Some(ActionForm::Run) => run(alloc, tokens),
+        Some(ActionForm::Input) => input(tokens),
+        Some(ActionForm::Output) => output(alloc, tokens),
         None => Err(Stop::Syntax),
     }
 }
 
-#[tactic(auto, using(crate::proofs::Steps::steps, crate::proofs::Forms::forms))]
-fn returned(tokens: &mut Tokens) -> Result<(u64, RawAction), Stop>
-    ensures ok { IfOk result (λ a. IsAction tokens.old tokens.new a.0 (read_action a.1)) }
-    ensures moves { Moves Returned tokens.old tokens.new result }
-    ensures shorter { IfOk result (λ _. length tokens.new < length tokens.old) }
-{
-    let at = tokens.expect_word(Word::Ret)?;
-    let value = expr(tokens)?;
-    Ok((at, RawAction::Ret(value)))
-}
-
 #[cycle(block)]
-#[tactic(auto, using(crate::proofs::Steps::steps, crate::proofs::Forms::forms))]
+#[tactic(auto, using(crate::proofs::BlockSteps::steps, crate::proofs::BlockForms::forms))]
 fn spawn(alloc: Global, tokens: &mut Tokens) -> Result<(u64, RawAction), Stop>
     ensures ok { IfOk result (λ a. IsAction tokens.old tokens.new a.0 (read_action a.1)) }
     ensures moves { Moves Spawn tokens.old tokens.new result }
@@ -105,30 +100,75 @@ fn spawn(alloc: Global, tokens: &mut Tokens) -> Result<(u64, RawAction), Stop>
     Ok((at, RawAction::Spawn(priority, boxed(alloc, body)?)))
 }
 
-#[tactic(auto, using(crate::proofs::Steps::steps, crate::proofs::Forms::forms))]
-fn sync(tokens: &mut Tokens) -> Result<(u64, RawAction), Stop>
+#[cycle(block)]
+#[tactic(auto, using(crate::proofs::BlockSteps::steps, crate::proofs::BlockForms::forms))]
+fn run(alloc: Global, tokens: &mut Tokens) -> Result<(u64, RawAction), Stop>
     ensures ok { IfOk result (λ a. IsAction tokens.old tokens.new a.0 (read_action a.1)) }
-    ensures moves { Moves Sync tokens.old tokens.new result }
+    ensures moves { Moves Run tokens.old tokens.new result }
     ensures shorter { IfOk result (λ _. length tokens.new < length tokens.old) }
 {
-    let at = tokens.expect_word(Word::Sync)?;
-    let thread = tokens.name()?;
-    Ok((at, RawAction::Sync(thread)))
+    let at = tokens.expect_word(Word::Do)?;
+    let body = block(alloc, tokens)?;
+    Ok((at, RawAction::Do(boxed(alloc, body)?)))
 }
 
 /// What ends a block.
-#[tactic(auto, using(crate::proofs::Steps::steps, crate::proofs::Forms::forms))]
-fn tail(tokens: &mut Tokens) -> Result<RawTail, Stop>
+#[cycle(block)]
+#[tactic(auto, using(crate::proofs::BlockSteps::choices))]
+fn tail(alloc: Global, tokens: &mut Tokens) -> Result<RawTail, Stop>
     ensures ok { IfOk result (λ t. IsBody tokens.old tokens.new (read_tail t.form t.at)) }
     ensures moves { Moves Tail tokens.old tokens.new result }
     ensures shorter { IfOk result (λ _. length tokens.new < length tokens.old) }
 {
-    let at = tokens.expect_word(Word::Ret)?;
-    let value = expr(tokens)?;
-    Ok(RawTail {
-        at,
-        form: RawTailForm::Ret(value),
-    })
+    match tokens.tail_form() {
+        Some(TailForm::Give) => give(alloc, tokens),
+        Some(TailForm::Branch) => branch(alloc, tokens),
+        Some(TailForm::Split) => split(alloc, tokens),
+        None => Err(Stop::Syntax),
+    }
+}
+
+/// An ending by a condition.
+#[cycle(block)]
+#[tactic(auto, using(crate::proofs::BlockSteps::steps, crate::proofs::BlockForms::forms))]
+fn branch(alloc: Global, tokens: &mut Tokens) -> Result<RawTail, Stop>
+    ensures ok { IfOk result (λ t. IsBody tokens.old tokens.new (read_tail t.form t.at)) }
+    ensures moves { Moves Branch tokens.old tokens.new result }
+    ensures shorter { IfOk result (λ _. length tokens.new < length tokens.old) }
+{
+    let at = tokens.expect_word(Word::If)?;
+    let test = expr(alloc, tokens)?;
+    let yes = block(alloc, tokens)?;
+    tokens.expect_word(Word::Else)?;
+    let no = block(alloc, tokens)?;
+    let form = RawTailForm::If(test, boxed(alloc, yes)?, boxed(alloc, no)?);
+    Ok(RawTail { at, form })
+}
+
+/// An ending by the two sides of a sum.
+#[cycle(block)]
+#[tactic(auto, using(crate::proofs::BlockSteps::steps, crate::proofs::BlockForms::forms))]
+fn split(alloc: Global, tokens: &mut Tokens) -> Result<RawTail, Stop>
+    ensures ok { IfOk result (λ t. IsBody tokens.old tokens.new (read_tail t.form t.at)) }
+    ensures moves { Moves Split tokens.old tokens.new result }
+    ensures shorter { IfOk result (λ _. length tokens.new < length tokens.old) }
+{
+    let at = tokens.expect_word(Word::Case)?;
+    let sum = expr(alloc, tokens)?;
+    tokens.expect_word(Word::Inl)?;
+    let first = tokens.name()?;
+    let left = block(alloc, tokens)?;
+    tokens.expect_word(Word::Inr)?;
+    let second = tokens.name()?;
+    let right = block(alloc, tokens)?;
+    let form = RawTailForm::Case(
+        sum,
+        first,
+        boxed(alloc, left)?,
+        second,
+        boxed(alloc, right)?,
+    );
+    Ok(RawTail { at, form })
 }
 
 fn boxed(alloc: Global, body: RawBlock) -> Result<Box<RawBlock>, AllocError>

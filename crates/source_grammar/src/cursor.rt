@@ -3,10 +3,14 @@
 ghost use Rattle.std.specs.Prelude.{◌≡◌, ◌∷◌, [], IfOk, OnOk, MatchOption, length};
 ghost use Rattle.source_grammar.specs.Grammar.{name, sign, word};
 ghost use Rattle.source_grammar.specs.Machine.{AName, ASign, AWord};
-ghost use Rattle.source_grammar.specs.Next.{action_form, declaration_form, is_at_name};
+ghost use Rattle.source_grammar.specs.Next.{declaration_form, action_form, expr_form, form_at, is_at, is_end, is_name, is_sign, joint_form, mid_form, tail_form, ty_form};
 ghost use Rattle.source_grammar.specs.Stops.{Moves, MovesAll};
 
+use crate::choice::{
+    ActionForm, DeclarationForm, ExprForm, Joint, Mid, Prefix, Side, TailForm, TyForm,
+};
 use crate::raw::Name;
+use priml_syntax::Op;
 use source_tokens::token::{Kind, Sign, Token, Word};
 use std::alloc::AllocError;
 use std::marker::Model;
@@ -27,21 +31,6 @@ impl From<AllocError> for Stop {
     fn from(_error: AllocError) -> Stop {
         Stop::Memory
     }
-}
-
-/// The forms of a declaration, by its first word.
-#[derive(Clone, Copy, Debug)]
-pub enum DeclarationForm {
-    Priority,
-    Order,
-}
-
-/// The forms of an action, by its first word.
-#[derive(Clone, Copy, Debug)]
-pub enum ActionForm {
-    Returned,
-    Spawn,
-    Sync,
 }
 
 /// The tokens that are left, from the next one on.
@@ -92,7 +81,7 @@ impl<'a> Tokens<'a> {
 
     /// Whether a name comes next.
     pub fn is_at_name(&self) -> bool
-        ensures { result ≡ is_at_name self.now }
+        ensures { result ≡ is_at is_name self.now }
     {
         match self.rest {
             [
@@ -106,25 +95,133 @@ impl<'a> Tokens<'a> {
         }
     }
 
-    /// Which declaration comes next, if one does.
-    pub fn declaration_form(&self) -> Option<DeclarationForm>
-        ensures { result ≡ declaration_form self.now }
+    /// Whether this sign comes next.
+    pub fn is_at_sign(&self, want: Sign) -> bool
+        ensures { result ≡ is_at (is_sign want) self.now }
+    {
+        match self.peek() {
+            Some(
+                Token {
+                    kind: Kind::Sign(found),
+                    ..
+                },
+            ) => found == want,
+            _ => false,
+        }
+    }
+
+    /// Whether a sign comes next that may end a list with commas.
+    pub fn is_at_end(&self) -> bool
+        ensures { result ≡ is_at is_end self.now }
+    {
+        match self.peek() {
+            Some(
+                Token {
+                    kind: Kind::Sign(Sign::CloseParen | Sign::CloseBracket | Sign::Semicolon),
+                    ..
+                },
+            ) => true,
+            _ => false,
+        }
+    }
+
+    /// Which type comes next, if one does.
+    pub fn ty_form(&self) -> Option<TyForm>
+        ensures { result ≡ form_at ty_form self.now }
     {
         match self.rest.first()?.kind {
-            Kind::Word(Word::Priority) => Some(DeclarationForm::Priority),
-            Kind::Word(Word::Order) => Some(DeclarationForm::Order),
+            Kind::Word(Word::Unit | Word::Bool | Word::Int) => Some(TyForm::Simple),
+            Kind::Word(Word::Thread) => Some(TyForm::Thread),
+            Kind::Sign(Sign::OpenParen) => Some(TyForm::Paired),
+            _ => None,
+        }
+    }
+
+    /// What joins two types, if it comes next.
+    pub fn mid_form(&self) -> Option<Mid>
+        ensures { result ≡ form_at mid_form self.now }
+    {
+        match self.rest.first()?.kind {
+            Kind::Sign(Sign::Star) => Some(Mid::Star),
+            Kind::Sign(Sign::Plus) => Some(Mid::Plus),
+            _ => None,
+        }
+    }
+
+    /// Which expression comes next, if one does.
+    pub fn expr_form(&self) -> Option<ExprForm>
+        ensures { result ≡ form_at expr_form self.now }
+    {
+        match self.rest.first()?.kind {
+            Kind::Name(_) | Kind::Number(_) | Kind::Word(Word::True | Word::False) => Some(
+                ExprForm::Leaf,
+            ),
+            Kind::Sign(Sign::OpenParen) => Some(ExprForm::Opened),
+            Kind::Word(Word::Fst) => Some(ExprForm::Applied(Prefix::First)),
+            Kind::Word(Word::Snd) => Some(ExprForm::Applied(Prefix::Second)),
+            Kind::Word(Word::Not) => Some(ExprForm::Applied(Prefix::Negated)),
+            Kind::Word(Word::Inl) => Some(ExprForm::Injected(Side::Left)),
+            Kind::Word(Word::Inr) => Some(ExprForm::Injected(Side::Right)),
+            _ => None,
+        }
+    }
+
+    /// What joins two expressions, if it comes next.
+    pub fn joint_form(&self) -> Option<Joint>
+        ensures { result ≡ form_at joint_form self.now }
+    {
+        match self.rest.first()?.kind {
+            Kind::Sign(Sign::Comma) => Some(Joint::Comma),
+            Kind::Sign(Sign::Plus) => Some(Joint::Operator(Op::Add)),
+            Kind::Sign(Sign::Minus) => Some(Joint::Operator(Op::Sub)),
+            Kind::Sign(Sign::Star) => Some(Joint::Operator(Op::Mul)),
+            Kind::Sign(Sign::Slash) => Some(Joint::Operator(Op::Div)),
+            Kind::Sign(Sign::Percent) => Some(Joint::Operator(Op::Rem)),
+            Kind::Sign(Sign::Less) => Some(Joint::Operator(Op::Less)),
+            Kind::Sign(Sign::AtMost) => Some(Joint::Operator(Op::AtMost)),
+            Kind::Sign(Sign::Equal) => Some(Joint::Operator(Op::Equal)),
+            Kind::Word(Word::And) => Some(Joint::Operator(Op::And)),
+            Kind::Word(Word::Or) => Some(Joint::Operator(Op::Or)),
             _ => None,
         }
     }
 
     /// Which action comes next, if one does.
     pub fn action_form(&self) -> Option<ActionForm>
-        ensures { result ≡ action_form self.now }
+        ensures { result ≡ form_at action_form self.now }
     {
         match self.rest.first()?.kind {
             Kind::Word(Word::Ret) => Some(ActionForm::Returned),
             Kind::Word(Word::Spawn) => Some(ActionForm::Spawn),
             Kind::Word(Word::Sync) => Some(ActionForm::Sync),
+            Kind::Word(Word::Call) => Some(ActionForm::Call),
+            Kind::Word(Word::Do) => Some(ActionForm::Run),
+            Kind::Word(Word::Input) => Some(ActionForm::Input),
+            Kind::Word(Word::Output) => Some(ActionForm::Output),
+            _ => None,
+        }
+    }
+
+    /// Which ending comes next, if one does.
+    pub fn tail_form(&self) -> Option<TailForm>
+        ensures { result ≡ form_at tail_form self.now }
+    {
+        match self.rest.first()?.kind {
+            Kind::Word(Word::Ret) => Some(TailForm::Give),
+            Kind::Word(Word::If) => Some(TailForm::Branch),
+            Kind::Word(Word::Case) => Some(TailForm::Split),
+            _ => None,
+        }
+    }
+
+    /// Which declaration comes next, if one does.
+    pub fn declaration_form(&self) -> Option<DeclarationForm>
+        ensures { result ≡ form_at declaration_form self.now }
+    {
+        match self.rest.first()?.kind {
+            Kind::Word(Word::Priority) => Some(DeclarationForm::Priority),
+            Kind::Word(Word::Order) => Some(DeclarationForm::Order),
+            Kind::Word(Word::Proc) => Some(DeclarationForm::Procedure),
             _ => None,
         }
     }

@@ -1,20 +1,43 @@
-//! Expressions and types.
+//! Expressions.
 
-ghost use Rattle.std.specs.Prelude.{◌≡◌, ◌<◌, IfOk, length};
-ghost use Rattle.source_grammar.specs.Grammar.{IsExpr, IsWritten};
-ghost use Rattle.source_grammar.specs.Machine.{Expr, Ty};
+ghost use Rattle.std.specs.Prelude.{◌≡◌, ◌∷◌, ◌<◌, IfOk, length};
+ghost use Rattle.source_tokens.specs.declared.token.Sign.TheVariants as a_sign;
+ghost use Rattle.source_grammar.specs.Grammar.{IsExpr, sign};
+ghost use Rattle.source_grammar.specs.Joined.{IsToken, joint_term, prefix_term, side_term};
+ghost use Rattle.source_grammar.specs.Machine.{AJoint, ASign, Applied, Behind, Bracketed, Expr, Injected, Inside, Joined, Leaf, Opened};
+ghost use Rattle.source_grammar.specs.Next.{joint_form, prefix_word, side_word};
 ghost use Rattle.source_grammar.specs.RawRead.{read_expr, read_written};
 ghost use Rattle.source_grammar.specs.Stops.{Moves};
 
+use crate::choice::{ExprForm, Joint, Prefix, Side};
 use crate::cursor::{Stop, Tokens};
-use crate::raw::{RawExpr, RawForm, RawTy, Written};
-use source_tokens::token::{Kind, Token, Word};
+use crate::raw::{RawExpr, RawForm, Written};
+use crate::ty::written;
+use source_tokens::token::{Kind, Sign, Token, Word};
+use std::alloc::{AllocError, Global};
 
 /// An expression.
-#[tactic(auto, using(crate::proofs::Forms::forms), unfolding(crate::specs::Machine::halt))]
-pub fn expr(tokens: &mut Tokens) -> Result<RawExpr, Stop>
+#[cycle(expr)]
+#[tactic(auto, using(crate::proofs::Steps::choices))]
+pub fn expr(alloc: Global, tokens: &mut Tokens) -> Result<RawExpr, Stop>
     ensures ok { IfOk result (λ e. IsExpr tokens.old tokens.new (read_expr e)) }
     ensures moves { Moves Expr tokens.old tokens.new result }
+    ensures shorter { IfOk result (λ _. length tokens.new < length tokens.old) }
+{
+    match tokens.expr_form() {
+        Some(ExprForm::Leaf) => leaf(tokens),
+        Some(ExprForm::Opened) => opened(alloc, tokens),
+        Some(ExprForm::Applied(prefix)) => applied(alloc, prefix, tokens),
+        Some(ExprForm::Injected(side)) => injected(alloc, side, tokens),
+        None => Err(Stop::Syntax),
+    }
+}
+
+/// An expression of one token.
+#[tactic(auto, using(crate::proofs::Forms::forms), unfolding(crate::specs::Machine::halt))]
+fn leaf(tokens: &mut Tokens) -> Result<RawExpr, Stop>
+    ensures ok { IfOk result (λ e. IsExpr tokens.old tokens.new (read_expr e)) }
+    ensures moves { Moves Leaf tokens.old tokens.new result }
     ensures shorter { IfOk result (λ _. length tokens.new < length tokens.old) }
 {
     match tokens.peek() {
@@ -42,17 +65,265 @@ pub fn expr(tokens: &mut Tokens) -> Result<RawExpr, Stop>
                 form: RawForm::Int(n),
             })
         }
+        Some(
+            Token {
+                at,
+                kind: Kind::Word(Word::True),
+            },
+        ) => {
+            tokens.next();
+            Ok(RawExpr {
+                at,
+                form: RawForm::Bool(true),
+            })
+        }
+        Some(
+            Token {
+                at,
+                kind: Kind::Word(Word::False),
+            },
+        ) => {
+            tokens.next();
+            Ok(RawExpr {
+                at,
+                form: RawForm::Bool(false),
+            })
+        }
         _ => Err(Stop::Syntax),
     }
 }
 
-/// A type, with the place of its first token.
+/// An expression that begins with a bracket.
+#[cycle(expr)]
 #[tactic(auto, using(crate::proofs::Steps::steps, crate::proofs::Forms::forms))]
-pub fn written(tokens: &mut Tokens) -> Result<Written, Stop>
-    ensures ok { IfOk result (λ w. IsWritten tokens.old tokens.new (read_written w)) }
-    ensures moves { Moves Ty tokens.old tokens.new result }
+fn opened(alloc: Global, tokens: &mut Tokens) -> Result<RawExpr, Stop>
+    ensures ok { IfOk result (λ e. IsExpr tokens.old tokens.new (read_expr e)) }
+    ensures moves { Moves Opened tokens.old tokens.new result }
     ensures shorter { IfOk result (λ _. length tokens.new < length tokens.old) }
 {
-    let at = tokens.expect_word(Word::Int)?;
-    Ok(Written { at, ty: RawTy::Int })
+    let at = tokens.expect_sign(Sign::OpenParen)?;
+    inside(alloc, at, tokens)
+}
+
+/// What comes behind the bracket at this offset.
+#[cycle(expr)]
+#[tactic(auto, using(crate::proofs::Steps::choices))]
+fn inside(alloc: Global, at: u64, tokens: &mut Tokens) -> Result<RawExpr, Stop>
+    ensures ok { IfOk result (λ e. IsExpr (sign at a_sign.OpenParen ∷ tokens.old) tokens.new (read_expr e)) }
+    ensures moves { Moves Inside tokens.old tokens.new result }
+    ensures shorter { IfOk result (λ _. length tokens.new < length tokens.old) }
+{
+    if tokens.is_at_sign(Sign::CloseParen) {
+        nothing(at, tokens)
+    } else {
+        bracketed(alloc, at, tokens)
+    }
+}
+
+#[tactic(auto, using(crate::proofs::Forms::forms))]
+fn nothing(at: u64, tokens: &mut Tokens) -> Result<RawExpr, Stop>
+    ensures ok { IfOk result (λ e. IsExpr (sign at a_sign.OpenParen ∷ tokens.old) tokens.new (read_expr e)) }
+    ensures moves { Moves (ASign a_sign.CloseParen) tokens.old tokens.new result }
+    ensures shorter { IfOk result (λ _. length tokens.new < length tokens.old) }
+{
+    tokens.expect_sign(Sign::CloseParen)?;
+    Ok(RawExpr {
+        at,
+        form: RawForm::Unit,
+    })
+}
+
+#[cycle(expr)]
+#[tactic(auto, using(crate::proofs::Steps::steps, crate::proofs::Forms::forms))]
+fn bracketed(alloc: Global, at: u64, tokens: &mut Tokens) -> Result<RawExpr, Stop>
+    ensures ok { IfOk result (λ e. IsExpr (sign at a_sign.OpenParen ∷ tokens.old) tokens.new (read_expr e)) }
+    ensures moves { Moves Bracketed tokens.old tokens.new result }
+    ensures shorter { IfOk result (λ _. length tokens.new < length tokens.old) }
+{
+    let first = expr(alloc, tokens)?;
+    behind(alloc, at, first, tokens)
+}
+
+/// What comes behind the bracket at this offset and an expression.
+#[cycle(expr)]
+#[tactic(auto, using(crate::proofs::Steps::choices))]
+fn behind(alloc: Global, at: u64, first: RawExpr, tokens: &mut Tokens) -> Result<RawExpr, Stop>
+    ensures ok { IfOk result
+        (λ e. (ts : _) → IsExpr ts tokens.old (read_expr first) → IsExpr (sign at a_sign.OpenParen ∷ ts) tokens.new (read_expr e)) }
+    ensures moves { Moves Behind tokens.old tokens.new result }
+    ensures shorter { IfOk result (λ _. length tokens.new < length tokens.old) }
+{
+    if tokens.is_at_sign(Sign::CloseParen) {
+        closed(at, first, tokens)
+    } else {
+        joined(alloc, at, first, tokens)
+    }
+}
+
+#[tactic(auto, using(crate::proofs::Forms::forms))]
+fn closed(at: u64, first: RawExpr, tokens: &mut Tokens) -> Result<RawExpr, Stop>
+    ensures ok { IfOk result
+        (λ e. (ts : _) → IsExpr ts tokens.old (read_expr first) → IsExpr (sign at a_sign.OpenParen ∷ ts) tokens.new (read_expr e)) }
+    ensures moves { Moves (ASign a_sign.CloseParen) tokens.old tokens.new result }
+    ensures shorter { IfOk result (λ _. length tokens.new < length tokens.old) }
+{
+    tokens.expect_sign(Sign::CloseParen)?;
+    Ok(first)
+}
+
+#[cycle(expr)]
+#[tactic(auto, using(crate::proofs::Steps::steps, crate::proofs::Forms::forms))]
+fn joined(alloc: Global, at: u64, first: RawExpr, tokens: &mut Tokens) -> Result<RawExpr, Stop>
+    ensures ok { IfOk result
+        (λ e. (ts : _) → IsExpr ts tokens.old (read_expr first) → IsExpr (sign at a_sign.OpenParen ∷ ts) tokens.new (read_expr e)) }
+    ensures moves { Moves Joined tokens.old tokens.new result }
+    ensures shorter { IfOk result (λ _. length tokens.new < length tokens.old) }
+{
+    let joint = take_joint(tokens)?;
+    let second = expr(alloc, tokens)?;
+    tokens.expect_sign(Sign::CloseParen)?;
+    Ok(join(alloc, at, joint, first, second)?)
+}
+
+/// A comma or an operator.
+#[tactic(auto, using(crate::proofs::Steps::choices), unfolding(crate::specs::Machine::halt))]
+fn take_joint(tokens: &mut Tokens) -> Result<Joint, Stop>
+    ensures ok { IfOk result (IsToken joint_form tokens.old tokens.new) }
+    ensures moves { Moves AJoint tokens.old tokens.new result }
+    ensures shorter { IfOk result (λ _. length tokens.new < length tokens.old) }
+{
+    match tokens.joint_form() {
+        Some(joint) => {
+            tokens.next();
+            Ok(joint)
+        }
+        None => Err(Stop::Syntax),
+    }
+}
+
+/// A word and an expression in brackets.
+#[cycle(expr)]
+#[tactic(auto, using(crate::proofs::Steps::steps, crate::proofs::Forms::forms))]
+fn applied(alloc: Global, prefix: Prefix, tokens: &mut Tokens) -> Result<RawExpr, Stop>
+    ensures ok { IfOk result (λ e. IsExpr tokens.old tokens.new (read_expr e)) }
+    ensures moves { Moves (Applied prefix) tokens.old tokens.new result }
+    ensures shorter { IfOk result (λ _. length tokens.new < length tokens.old) }
+{
+    let at = tokens.expect_word(prefix.word())?;
+    tokens.expect_sign(Sign::OpenParen)?;
+    let value = expr(alloc, tokens)?;
+    tokens.expect_sign(Sign::CloseParen)?;
+    Ok(prefix.apply(alloc, at, value)?)
+}
+
+/// A side of a sum: a word, a type in square brackets and an expression in brackets.
+#[cycle(expr)]
+#[tactic(auto, using(crate::proofs::Steps::steps, crate::proofs::Forms::forms))]
+fn injected(alloc: Global, side: Side, tokens: &mut Tokens) -> Result<RawExpr, Stop>
+    ensures ok { IfOk result (λ e. IsExpr tokens.old tokens.new (read_expr e)) }
+    ensures moves { Moves (Injected side) tokens.old tokens.new result }
+    ensures shorter { IfOk result (λ _. length tokens.new < length tokens.old) }
+{
+    let at = tokens.expect_word(side.word())?;
+    tokens.expect_sign(Sign::OpenBracket)?;
+    let ty = written(alloc, tokens)?;
+    tokens.expect_sign(Sign::CloseBracket)?;
+    tokens.expect_sign(Sign::OpenParen)?;
+    let value = expr(alloc, tokens)?;
+    tokens.expect_sign(Sign::CloseParen)?;
+    Ok(side.inject(alloc, at, ty, value)?)
+}
+
+impl Prefix {
+    fn word(self) -> Word
+        ensures { result ≡ prefix_word self }
+    {
+        match self {
+            Prefix::First => Word::Fst,
+            Prefix::Second => Word::Snd,
+            Prefix::Negated => Word::Not,
+        }
+    }
+
+    fn apply(self, alloc: Global, at: u64, value: RawExpr) -> Result<RawExpr, AllocError>
+        ensures { IfOk result (λ e. read_expr e ≡ prefix_term self at (read_expr value)) }
+    {
+        let value = boxed(alloc, value)?;
+        match self {
+            Prefix::First => Ok(RawExpr {
+                at,
+                form: RawForm::Fst(value),
+            }),
+            Prefix::Second => Ok(RawExpr {
+                at,
+                form: RawForm::Snd(value),
+            }),
+            Prefix::Negated => Ok(RawExpr {
+                at,
+                form: RawForm::Not(value),
+            }),
+        }
+    }
+}
+
+impl Side {
+    fn word(self) -> Word
+        ensures { result ≡ side_word self }
+    {
+        match self {
+            Side::Left => Word::Inl,
+            Side::Right => Word::Inr,
+        }
+    }
+
+    fn inject(
+        self,
+        alloc: Global,
+        at: u64,
+        ty: Written,
+        value: RawExpr,
+    ) -> Result<RawExpr, AllocError>
+        ensures { IfOk result (λ e. read_expr e ≡ side_term self at (read_written ty) (read_expr value)) }
+    {
+        let value = boxed(alloc, value)?;
+        match self {
+            Side::Left => Ok(RawExpr {
+                at,
+                form: RawForm::Inl(ty, value),
+            }),
+            Side::Right => Ok(RawExpr {
+                at,
+                form: RawForm::Inr(ty, value),
+            }),
+        }
+    }
+}
+
+fn join(
+    alloc: Global,
+    at: u64,
+    joint: Joint,
+    first: RawExpr,
+    second: RawExpr,
+) -> Result<RawExpr, AllocError>
+    ensures { IfOk result (λ e. read_expr e ≡ joint_term joint at (read_expr first) (read_expr second)) }
+{
+    let first = boxed(alloc, first)?;
+    let second = boxed(alloc, second)?;
+    match joint {
+        Joint::Comma => Ok(RawExpr {
+            at,
+            form: RawForm::Pair(first, second),
+        }),
+        Joint::Operator(op) => Ok(RawExpr {
+            at,
+            form: RawForm::Op(op, first, second),
+        }),
+    }
+}
+
+fn boxed(alloc: Global, value: RawExpr) -> Result<Box<RawExpr>, AllocError>
+    ensures { IfOk result (λ b. read_expr b.value ≡ read_expr value) }
+{
+    Ok(Box::new(alloc, value)?)
 }

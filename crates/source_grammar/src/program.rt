@@ -1,20 +1,20 @@
 //! Declarations, the main procedure and the program.
 
-ghost use Rattle.std.specs.Prelude.{◌≡◌, ◌++◌, OnOk, ◌∷◌, [], IfOk, IfErr, ◌≤◌, ◌<◌, length};
+ghost use Rattle.std.specs.Prelude.{◌≡◌, ◌∷◌, [], IfOk, IfErr, ◌<◌, length, map};
 ghost use Rattle.source_grammar.specs.Faults.{Refuses, StopsAt};
 ghost use Rattle.source_grammar.specs.Grammar.{IsDecls, IsMain, IsProgram};
-ghost use Rattle.source_grammar.specs.Machine.{Main, Order, Priority, Program};
-ghost use Rattle.source_grammar.specs.Next.{declaration_symbol};
-ghost use Rattle.source_grammar.specs.RawRead.{read_main, read_raw};
+ghost use Rattle.source_grammar.specs.Machine.{Main, Order, Priority, Program, declaration_symbol};
+ghost use Rattle.source_grammar.specs.RawRead.{read_decl, read_main, read_raw};
 ghost use Rattle.source_grammar.specs.RawTree.{RawTree};
 ghost use Rattle.source_grammar.specs.Stops.{Moves, MovesAll, MovesTo};
 
-use crate::block::block;
-use crate::cursor::{DeclarationForm, Stop, Tokens};
-use crate::expr::written;
+use crate::choice::DeclarationForm;
+use crate::cursor::{Stop, Tokens};
+use crate::head::{procedure, routine};
+use crate::list::push;
 use crate::raw::{RawDecl, RawMain, RawProgram};
 use source_tokens::token::{Sign, Token, Word};
-use std::alloc::{AllocError, Global};
+use std::alloc::Global;
 
 /// Why tokens stand for no program.
 #[derive(Clone, Copy, Debug, PartialEq, Eq)]
@@ -42,7 +42,7 @@ pub fn parse(alloc: Global, tokens: &[Token]) -> Result<RawProgram, ParseStop>
 }
 
 /// A program, and then no token more.
-#[tactic(auto, using(crate::proofs::Steps::steps, crate::proofs::Forms::forms))]
+#[tactic(auto, using(crate::proofs::HeadSteps::steps, crate::proofs::HeadForms::forms))]
 fn program(alloc: Global, tokens: &mut Tokens) -> Result<RawProgram, Stop>
     ensures ok { IfOk result (λ p. IsProgram tokens.old (read_raw p)) }
     ensures moves { MovesAll (Program ∷ []) tokens.old tokens.new result }
@@ -54,33 +54,35 @@ fn program(alloc: Global, tokens: &mut Tokens) -> Result<RawProgram, Stop>
 }
 
 /// The declarations, as far as they come.
-#[tactic(auto, using(crate::proofs::Steps::steps, crate::proofs::Forms::forms))]
+#[tactic(auto, using(crate::proofs::HeadSteps::steps, crate::proofs::HeadForms::forms))]
 fn declarations(alloc: Global, tokens: &mut Tokens) -> Result<Vec<RawDecl>, Stop>
-    ensures ok { IfOk result (λ ds. IsDecls tokens.old tokens.new ds.items) }
+    ensures ok { IfOk result (λ ds. IsDecls tokens.old tokens.new (map read_decl ds.items)) }
     ensures moves { MovesTo Program (Main ∷ []) tokens.old tokens.new result }
 {
     let mut declarations = Vec::new(alloc);
     'declarations: while let Some(form) = tokens.declaration_form() {
-        let declaration = declaration(form, tokens)?;
+        let declaration = declaration(alloc, form, tokens)?;
         push(&mut declarations, declaration)?;
     }
     Ok(declarations)
 }
 
-fn declaration(form: DeclarationForm, tokens: &mut Tokens) -> Result<RawDecl, Stop>
-    ensures ok { IfOk result (λ d. IsDecls tokens.old tokens.new (d ∷ [])) }
+#[tactic(auto, using(crate::proofs::HeadForms::forms))]
+fn declaration(alloc: Global, form: DeclarationForm, tokens: &mut Tokens) -> Result<RawDecl, Stop>
+    ensures ok { IfOk result (λ d. IsDecls tokens.old tokens.new (read_decl d ∷ [])) }
     ensures moves { Moves (declaration_symbol form) tokens.old tokens.new result }
     ensures shorter { IfOk result (λ _. length tokens.new < length tokens.old) }
 {
     match form {
         DeclarationForm::Priority => priority(tokens),
         DeclarationForm::Order => order(tokens),
+        DeclarationForm::Procedure => Ok(RawDecl::Proc(procedure(alloc, tokens)?)),
     }
 }
 
-#[tactic(auto, using(crate::proofs::Steps::steps, crate::proofs::Forms::forms))]
+#[tactic(auto, using(crate::proofs::HeadSteps::steps, crate::proofs::HeadForms::forms))]
 fn priority(tokens: &mut Tokens) -> Result<RawDecl, Stop>
-    ensures ok { IfOk result (λ d. IsDecls tokens.old tokens.new (d ∷ [])) }
+    ensures ok { IfOk result (λ d. IsDecls tokens.old tokens.new (read_decl d ∷ [])) }
     ensures moves { Moves Priority tokens.old tokens.new result }
     ensures shorter { IfOk result (λ _. length tokens.new < length tokens.old) }
 {
@@ -90,9 +92,9 @@ fn priority(tokens: &mut Tokens) -> Result<RawDecl, Stop>
     Ok(RawDecl::Priority(name))
 }
 
-#[tactic(auto, using(crate::proofs::Steps::steps, crate::proofs::Forms::forms))]
+#[tactic(auto, using(crate::proofs::HeadSteps::steps, crate::proofs::HeadForms::forms))]
 fn order(tokens: &mut Tokens) -> Result<RawDecl, Stop>
-    ensures ok { IfOk result (λ d. IsDecls tokens.old tokens.new (d ∷ [])) }
+    ensures ok { IfOk result (λ d. IsDecls tokens.old tokens.new (read_decl d ∷ [])) }
     ensures moves { Moves Order tokens.old tokens.new result }
     ensures shorter { IfOk result (λ _. length tokens.new < length tokens.old) }
 {
@@ -104,28 +106,11 @@ fn order(tokens: &mut Tokens) -> Result<RawDecl, Stop>
     Ok(RawDecl::Order(at, lower, upper))
 }
 
-#[tactic(auto, using(crate::proofs::Steps::steps, crate::proofs::Forms::forms))]
+#[tactic(auto, using(crate::proofs::HeadSteps::steps, crate::proofs::HeadForms::forms))]
 fn main(alloc: Global, tokens: &mut Tokens) -> Result<RawMain, Stop>
     ensures ok { IfOk result (λ m. IsMain tokens.old tokens.new (read_main m)) }
     ensures moves { Moves Main tokens.old tokens.new result }
 {
     let at = tokens.expect_word(Word::Main)?;
-    tokens.expect_word(Word::At)?;
-    let own = tokens.name()?;
-    tokens.expect_sign(Sign::Colon)?;
-    let result = written(tokens)?;
-    let body = block(alloc, tokens)?;
-    Ok(RawMain {
-        at,
-        own,
-        result,
-        body,
-    })
-}
-
-fn push(declarations: &mut Vec<RawDecl>, declaration: RawDecl) -> Result<(), AllocError>
-    ensures { OnOk result (declarations.new.items ≡ declarations.old.items ++ declaration ∷ []) }
-{
-    declarations.push(declaration)?;
-    Ok(())
+    routine(alloc, at, tokens)
 }

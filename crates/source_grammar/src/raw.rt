@@ -1,5 +1,7 @@
 //! The tree of a text, as the grammar gives it: names are not resolved. Each node has the offset of its first token.
 
+use priml_syntax::Op;
+
 /// A name where it stands: its offset, and its number among the distinct names of the text.
 #[derive(Clone, Copy, Debug, PartialEq, Eq)]
 pub struct Name {
@@ -7,24 +9,15 @@ pub struct Name {
     pub id: usize,
 }
 
-/// What stands in an expression. A name is its number among the names of the text; its place is the node's.
-#[derive(Drop)]
-pub enum RawForm {
-    Var(usize),
-    Int(u64),
-}
-
-/// An expression.
-#[derive(Drop)]
-pub struct RawExpr {
-    pub at: u64,
-    pub form: RawForm,
-}
-
 /// A type.
 #[derive(Drop)]
 pub enum RawTy {
+    Unit,
+    Bool,
     Int,
+    Pair(Box<RawTy>, Box<RawTy>),
+    Sum(Box<RawTy>, Box<RawTy>),
+    Thread(Name, Box<RawTy>),
 }
 
 /// A type where it is written.
@@ -32,6 +25,31 @@ pub enum RawTy {
 pub struct Written {
     pub at: u64,
     pub ty: RawTy,
+}
+
+/// An expression. Brackets around it make no node.
+#[cycle(raw_expr)]
+#[derive(Drop)]
+pub struct RawExpr {
+    pub at: u64,
+    pub form: RawForm,
+}
+
+/// What stands in an expression. A name is its number among the names of the text; its place is the node's.
+#[cycle(raw_expr)]
+#[derive(Drop)]
+pub enum RawForm {
+    Var(usize),
+    Int(u64),
+    Bool(bool),
+    Unit,
+    Pair(Box<RawExpr>, Box<RawExpr>),
+    Fst(Box<RawExpr>),
+    Snd(Box<RawExpr>),
+    Inl(Written, Box<RawExpr>),
+    Inr(Written, Box<RawExpr>),
+    Op(Op, Box<RawExpr>, Box<RawExpr>),
+    Not(Box<RawExpr>),
 }
 
 /// A block: bound actions and an ending.
@@ -59,19 +77,48 @@ pub enum RawAction {
     Ret(RawExpr),
     Spawn(Name, Box<RawBlock>),
     Sync(Name),
+    Call(Name, Vec<Name>, Vec<RawExpr>),
+    Do(Box<RawBlock>),
+    Input,
+    Output(RawExpr),
 }
 
 /// What ends a block, with the offset of its word.
+#[cycle(raw)]
 #[derive(Drop)]
 pub struct RawTail {
     pub at: u64,
     pub form: RawTailForm,
 }
 
-/// The forms of an ending.
+/// The forms of an ending. Each branch of a `case` has the name that it binds.
+#[cycle(raw)]
 #[derive(Drop)]
 pub enum RawTailForm {
     Ret(RawExpr),
+    If(RawExpr, Box<RawBlock>, Box<RawBlock>),
+    Case(RawExpr, Name, Box<RawBlock>, Name, Box<RawBlock>),
+}
+
+/// A parameter and its type.
+#[derive(Drop)]
+pub struct RawParam {
+    pub name: Name,
+    pub ty: Written,
+}
+
+/// A procedure: the offset of its word `proc`, its name, its priority variables, the pairs that it is given (the first
+/// at most the second), its parameters, its own priority, its result type and its body.
+#[derive(Drop)]
+pub struct RawProc {
+    pub at: u64,
+    pub name: Name,
+    pub vars: Vec<Name>,
+    pub given: Vec<(Name, Name)>,
+    pub params: Vec<RawParam>,
+    pub own: Name,
+    pub result: Written,
+    pub body: RawBlock,
 }
 
 /// A declaration before `main`. An order has the offset of its word `order`.
@@ -79,6 +126,7 @@ pub enum RawTailForm {
 pub enum RawDecl {
     Priority(Name),
     Order(u64, Name, Name),
+    Proc(RawProc),
 }
 
 /// The main procedure: the offset of its word `main`, its own priority, its result type and its body.

@@ -1,98 +1,125 @@
--- What a program without faults means is in scope.
-use Rattle.std.proofs.Common.{◌≡◌, ℕ, ◌<◌, Bool, true, is_some, Option, Some, None, unwrap_or, get_or, List, [], ◌∷◌, ◌++◌, length, arith, sym, refl, subst}
-use Rattle.std.specs.List.{All}
-use Rattle.std.proofs.lemmas.List.{length-append, length-map}
-use Rattle.std.proofs.lemmas.List.Elements.{All-nil, All-cons}
-use Rattle.priml_syntax.specs.Tree.{Constraint, Declared}
+-- What a program without faults means is in scope: types, expressions, blocks.
+use Rattle.std.proofs.Common.{◌≡◌, ℕ, ◌+◌, ◌<◌, ◌≤◌, true, nat_le, is_some, Option, Some, None, unwrap_or, List, [], ◌∷◌, ◌++◌, length, arith, refl, subst}
+use Rattle.std.proofs.lemmas.Bool.Decides.{nat_tests}
+use Rattle.std.proofs.lemmas.List.{length-append}
+use Rattle.priml_syntax.specs.declared.prio.Prio.TheVariants.{Const}
+use Rattle.priml_syntax.specs.Size.{type_nodes}
 use Rattle.priml_syntax.specs.Scoped as scoped
-use Rattle.priml_syntax.specs.Scoped.{TermIn, BodyIn, CodeIn, ActIn, Written, PrioIn, scope_in, RoutineIn, MainIn, KeepsLimits, IsScoped}
-use Rattle.source_grammar.specs.declared.raw.RawDecl.{RawDecl}
-use Rattle.source_grammar.specs.declared.raw.RawDecl.TheVariants.{Priority, Order}
-use Rattle.source_grammar.specs.RawTree.{RawType, int, RawTerm, var, number, RawCode, block, RawBody, bind, give, RawAct, ret, spawn, sync, RawTree}
-use Rattle.source_reader.specs.declared.faults.Fault.TheVariants.{UnknownName}
-use Rattle.source_reader.specs.declared.faults.What.TheVariants.{Pairs}
+use Rattle.priml_syntax.specs.Scoped.{PrioIn, PriosIn, TypeIn, Written, TermIn, TermsIn, CodeIn, BodyIn, ActIn}
+use Rattle.source_grammar.specs.declared.raw.Name.{Name}
+use Rattle.source_grammar.specs.RawTree.{RawType, unit, bool, int, pair, sum, thread, WrittenType, RawTerm, var, number, truth, nothing, both, first, second, left, right, binary, negated, RawCode, block, RawBody, bind, give, branch, split, RawAct, ret, spawn, sync, call, run, input, output}
+use Rattle.source_reader.specs.declared.faults.Fault.TheVariants.{UnknownName, TooMany}
 use Rattle.source_reader.specs.declared.faults.What.TheVariants as what
-use Rattle.source_reader.specs.Names.{lookup, priorities}
-use Rattle.source_reader.specs.Faults.{pairs_in, term_faults, code_faults, body_faults, act_faults, room_faults, prio_faults, decl_faults, decls_faults, main_faults, is_declared, faults}
-use Rattle.source_reader.specs.Resolved.{term_meant, code_meant, body_meant, act_meant, pairs_meant, number_of, main_meant, resolved, type_meant}
+use Rattle.source_reader.specs.Names.{lookup, is_among, Env, prio_named, prio_in, prio_of}
+use Rattle.source_reader.specs.Faults.{unless, prio_faults, prios_faults, proc_faults, raw_nodes, type_faults, written_faults, term_faults, terms_faults, scope_faults, code_faults, body_faults, act_faults}
+use Rattle.source_reader.specs.Resolved.{type_meant, term_meant, terms_meant, prios_meant, code_meant, body_meant, act_meant}
 use Rattle.source_reader.proofs.Lists.{no_faults, holds, has_room, within}
 use Rattle.source_reader.proofs.Lookup.{lookup_within}
-use Rattle.source_reader.proofs.Tables.{few_declared, pairs_long}
 
-term_scoped : (e : RawTerm) (s : scoped.Scope) (scope : List ℕ) → term_faults e scope ≡ [] → TermIn s (length scope) (term_meant e scope)
-term_scoped (var at id) s scope e = within (lookup id scope) (length scope) (UnknownName at) (λ k q. lookup_within scope id k q) e
-term_scoped (number at n) s scope e = tt
+-- how many priorities, priority variables and procedures the names stand for
+abbrev pub scope_of : Env → scoped.Scope
+scope_of env = record { prios = length env.prios; vars = length env.vars; procs = length env.procs }
 
--- the numbers of declared priorities are those of the scope
-module _ (s : scoped.Scope) (declared : ℕ → Bool) (prio : ℕ → ℕ) (known : (id : ℕ) → declared id ≡ true → prio id < s.prios) where
-  mutual
-    pub code_scoped : (c : RawCode) (scope : List ℕ) → code_faults c declared scope ≡ [] → CodeIn (code_meant c prio scope) s (length scope)
-    code_scoped (block at b) scope e = body_scoped b scope e
+named_in : (s : scoped.Scope) (v d : Option ℕ) → ((k : ℕ) → v ≡ Some k → k < s.vars) → ((k : ℕ) → d ≡ Some k → k < s.prios) → is_some (prio_named v d) ≡ true → PrioIn s (unwrap_or (prio_named v d) (Const 0))
+named_in s (Some k) d h g e = h k refl
+named_in s None (Some k) h g e = g k refl
+named_in s None None h g e = absurd (cc)
 
-    pub body_scoped : (b : RawBody) (scope : List ℕ) → body_faults b declared scope ≡ [] → BodyIn (body_meant b prio scope) s (length scope)
-    body_scoped (bind n at a rest) scope e =
-        let p = no_faults (room_faults n.at (length scope) 32 what.Scope) (act_faults a declared scope ++ body_faults rest declared (scope ++ n.id ∷ [])) e in
-        let q = no_faults (act_faults a declared scope) (body_faults rest declared (scope ++ n.id ∷ [])) p.1 in (
-          act_scoped a scope q.0,
-          has_room n.at (length scope) 32 what.Scope p.0,
-          subst (BodyIn (body_meant rest prio (scope ++ n.id ∷ [])) s) (length-append scope (n.id ∷ [])) (body_scoped rest (scope ++ n.id ∷ []) q.1),
-        )
-    body_scoped (give at e) scope q = term_scoped e s scope q
+pub prio_scoped : (env : Env) (n : Name) → prio_faults env n ≡ [] → PrioIn (scope_of env) (prio_of env n.id)
+prio_scoped env n e = named_in (scope_of env) (lookup n.id env.vars) (lookup n.id env.prios) (λ k q. lookup_within env.vars n.id k q) (λ k q. lookup_within env.prios n.id k q) (holds (is_some (prio_in env n.id)) (UnknownName n.at) e)
 
-    pub act_scoped : (a : RawAct) (scope : List ℕ) → act_faults a declared scope ≡ [] → ActIn (act_meant a prio scope) s (length scope)
-    act_scoped (ret e) scope q = term_scoped e s scope q
-    act_scoped (spawn p b) scope e =
-        let q = no_faults (prio_faults declared p) (code_faults b declared scope) e in
-        (known p.id (holds (declared p.id) (UnknownName p.at) q.0), code_scoped b scope q.1)
-    act_scoped (sync h) scope e = within (lookup h.id scope) (length scope) (UnknownName h.at) (λ k q. lookup_within scope h.id k q) e
+pub prios_scoped : (env : Env) (ns : List Name) → prios_faults env ns ≡ [] → PriosIn (scope_of env) (prios_meant env ns)
+prios_scoped env [] e = tt
+prios_scoped env (n ∷ ns) e = let p = no_faults (prio_faults env n) (prios_faults env ns) e in (prio_scoped env n p.0, prios_scoped env ns p.1)
 
--- declared priorities have numbers below their count
-module _ (declared : ℕ → Bool) (prio : ℕ → ℕ) (count : ℕ) (known : (id : ℕ) → declared id ≡ true → prio id < count) where
-  pub pairs_scoped : (ds before : List RawDecl) → decls_faults ds declared before ≡ [] → All (λ (d : Declared). (d.pair.0 < count) × (d.pair.1 < count)) (pairs_meant ds prio)
-  pairs_scoped [] before e = All-nil (λ (d : Declared). (d.pair.0 < count) × (d.pair.1 < count))
-  pairs_scoped (Priority n ∷ ds) before e = pairs_scoped ds (before ++ Priority n ∷ []) (no_faults (decl_faults (Priority n) declared (priorities before) (pairs_in before)) _ e).1
-  pairs_scoped (Order at m n ∷ ds) before e =
-      let p = no_faults (decl_faults (Order at m n) declared (priorities before) (pairs_in before)) (decls_faults ds declared (before ++ Order at m n ∷ [])) e in
-      let q = no_faults (room_faults at (pairs_in before) 256 Pairs) (prio_faults declared m ++ prio_faults declared n) p.0 in
-      let r = no_faults (prio_faults declared m) (prio_faults declared n) q.1 in
-      All-cons (λ (d : Declared). (d.pair.0 < count) × (d.pair.1 < count)) (record { at = at; pair = (prio m.id, prio n.id) }) (pairs_meant ds prio)
-      (known m.id (holds (declared m.id) (UnknownName m.at) r.0), known n.id (holds (declared n.id) (UnknownName n.at) r.1)) (pairs_scoped ds (before ++ Order at m n ∷ []) p.1)
+same_nodes : (env : Env) (t : RawType) → type_nodes (type_meant env t) ≡ raw_nodes t
+same_nodes env unit = refl
+same_nodes env bool = refl
+same_nodes env int = refl
+same_nodes env (pair a b) = let p = same_nodes env a in let q = same_nodes env b in omega (arith, p, q)
+same_nodes env (sum a b) = let p = same_nodes env a in let q = same_nodes env b in omega (arith, p, q)
+same_nodes env (thread p a) = let q = same_nodes env a in omega (arith, q)
 
-some_below : (o : Option ℕ) (l : ℕ) → ((k : ℕ) → o ≡ Some k → k < l) → is_some o ≡ true → unwrap_or o 0 < l
-some_below None l h e = absurd (cc)
-some_below (Some k) l h e = h k refl
+type_scoped : (env : Env) (t : RawType) → type_faults env t ≡ [] → TypeIn (scope_of env) (type_meant env t)
+type_scoped env unit e = tt
+type_scoped env bool e = tt
+type_scoped env int e = tt
+type_scoped env (pair a b) e = let p = no_faults (type_faults env a) (type_faults env b) e in (type_scoped env a p.0, type_scoped env b p.1)
+type_scoped env (sum a b) e = let p = no_faults (type_faults env a) (type_faults env b) e in (type_scoped env a p.0, type_scoped env b p.1)
+type_scoped env (thread n a) e = let p = no_faults (prio_faults env n) (type_faults env a) e in (prio_scoped env n p.0, type_scoped env a p.1)
 
-number_below : (ds : List RawDecl) (id : ℕ) → is_declared ds id ≡ true → number_of ds id < length (priorities ds)
-number_below ds id e = some_below (lookup id (priorities ds)) (length (priorities ds)) (λ k q. lookup_within (priorities ds) id k q) e
+few_nodes : (n : ℕ) → nat_le n 16 ≡ true → n ≤ 16
+few_nodes n e = grind (arith, nat_tests)
 
-int_written : (s : scoped.Scope) (t : RawType) → Written s (type_meant t)
-int_written s int = (tt, omega arith)
+pub written_scoped : (env : Env) (w : WrittenType) → written_faults env w ≡ [] → Written (scope_of env) (type_meant env w.ty)
+written_scoped env w e =
+    let p = no_faults (unless (nat_le (raw_nodes w.ty) 16) (TooMany w.at what.TypeNodes)) (type_faults env w.ty) e in
+    let few = few_nodes (raw_nodes w.ty) (holds (nat_le (raw_nodes w.ty) 16) (TooMany w.at what.TypeNodes) p.0) in
+    let same = same_nodes env w.ty in
+    (type_scoped env w.ty p.1, omega (arith, few, same))
 
-pub resolved_scoped : (names : List (List ℕ)) (p : RawTree) → faults p ≡ [] → IsScoped (resolved names p)
-resolved_scoped names p e =
-    let ds = p.decls in
-    let declared = is_declared ds in
-    let tree = resolved names p in
-    let main = main_meant p.main (number_of ds) in
-    let s = scope_in tree main in
-    let long : length tree.names ≡ length (priorities ds) = length-map (priorities ds) (λ id. get_or names id []) in
-    let few = few_declared p declared e in
-    let known : (id : ℕ) → declared id ≡ true → number_of ds id < length tree.names = λ id q. subst (λ n. number_of ds id < n) (sym long) (number_below ds id q) in
-    let parts = no_faults (decls_faults ds declared []) (main_faults p.main declared) e in
-    let here = no_faults (prio_faults declared p.main.own) (code_faults p.main.body declared []) parts.1 in
-    let routine : RoutineIn tree main = record {
-      vars = omega arith;
-      few_given = omega arith;
-      given = All-nil (λ (c : Constraint). PrioIn s c.0 × PrioIn s c.1);
-      few_params = omega arith;
-      params = All-nil (Written s);
-      own = known p.main.own.id (holds (declared p.main.own.id) (UnknownName p.main.own.at) here.0);
-      gives = int_written s p.main.result.ty;
-      body = code_scoped s declared (number_of ds) known p.main.body [] here.1;
-    } in
-    record {
-      keeps = record { names = omega (arith, long, few.0); pairs = omega (arith, pairs_long ds (number_of ds), few.1); procs = omega arith; some_main = omega arith; mains = omega arith };
-      pairs = pairs_scoped declared (number_of ds) (length tree.names) known ds [] parts.0;
-      procs = All-nil (RoutineIn tree);
-      mains = All-cons (MainIn tree) main [] (record { routine = routine; no_vars = refl; no_given = refl; no_params = refl }) (All-nil (MainIn tree));
-    }
+var_scoped : (at id : ℕ) (scope : List ℕ) → unless (is_among id scope) (UnknownName at) ≡ [] → unwrap_or (lookup id scope) 0 < length scope
+var_scoped at id scope e = within (lookup id scope) (length scope) (UnknownName at) (λ k q. lookup_within scope id k q) e
+
+pub term_scoped : (env : Env) (t : RawTerm) (scope : List ℕ) → term_faults env t scope ≡ [] → TermIn (scope_of env) (length scope) (term_meant env t scope)
+term_scoped env (var at id) scope e = var_scoped at id scope e
+term_scoped env (number at n) scope e = tt
+term_scoped env (truth at b) scope e = tt
+term_scoped env (nothing at) scope e = tt
+term_scoped env (both at a b) scope e = let p = no_faults (term_faults env a scope) (term_faults env b scope) e in (term_scoped env a scope p.0, term_scoped env b scope p.1)
+term_scoped env (first at a) scope e = term_scoped env a scope e
+term_scoped env (second at a) scope e = term_scoped env a scope e
+term_scoped env (left at w a) scope e = let p = no_faults (written_faults env w) (term_faults env a scope) e in (written_scoped env w p.0, term_scoped env a scope p.1)
+term_scoped env (right at w a) scope e = let p = no_faults (written_faults env w) (term_faults env a scope) e in (written_scoped env w p.0, term_scoped env a scope p.1)
+term_scoped env (binary at op a b) scope e = let p = no_faults (term_faults env a scope) (term_faults env b scope) e in (term_scoped env a scope p.0, term_scoped env b scope p.1)
+term_scoped env (negated at a) scope e = term_scoped env a scope e
+
+pub terms_scoped : (env : Env) (ts : List RawTerm) (scope : List ℕ) → terms_faults env ts scope ≡ [] → TermsIn (scope_of env) (length scope) (terms_meant env ts scope)
+terms_scoped env [] scope e = tt
+terms_scoped env (t ∷ ts) scope e = let p = no_faults (term_faults env t scope) (terms_faults env ts scope) e in (term_scoped env t scope p.0, terms_scoped env ts scope p.1)
+
+-- a block with one variable more in scope
+one_more : (c : RawCode) (env : Env) (scope : List ℕ) (id : ℕ) → CodeIn (code_meant c env (scope ++ id ∷ [])) (scope_of env) (length (scope ++ id ∷ [])) → CodeIn (code_meant c env (scope ++ id ∷ [])) (scope_of env) (length scope + 1)
+one_more c env scope id h = subst (CodeIn (code_meant c env (scope ++ id ∷ [])) (scope_of env)) (length-append scope (id ∷ [])) h
+
+mutual
+  pub code_scoped : (c : RawCode) (env : Env) (scope : List ℕ) → code_faults c env scope ≡ [] → CodeIn (code_meant c env scope) (scope_of env) (length scope)
+  code_scoped (block at b) env scope e = body_scoped b env scope e
+
+  pub body_scoped : (b : RawBody) (env : Env) (scope : List ℕ) → body_faults b env scope ≡ [] → BodyIn (body_meant b env scope) (scope_of env) (length scope)
+  body_scoped (bind n at a rest) env scope e =
+      let p = no_faults (scope_faults n scope) (act_faults a env scope ++ body_faults rest env (scope ++ n.id ∷ [])) e in
+      let q = no_faults (act_faults a env scope) (body_faults rest env (scope ++ n.id ∷ [])) p.1 in (
+        act_scoped a env scope q.0,
+        has_room n.at (length scope) 32 what.Scope p.0,
+        subst (BodyIn (body_meant rest env (scope ++ n.id ∷ [])) (scope_of env)) (length-append scope (n.id ∷ [])) (body_scoped rest env (scope ++ n.id ∷ []) q.1),
+      )
+  body_scoped (give at t) env scope e = term_scoped env t scope e
+  body_scoped (branch at t a b) env scope e =
+      let p = no_faults (term_faults env t scope) (code_faults a env scope ++ code_faults b env scope) e in
+      let q = no_faults (code_faults a env scope) (code_faults b env scope) p.1 in
+      (term_scoped env t scope p.0, code_scoped a env scope q.0, code_scoped b env scope q.1)
+  body_scoped (split at t m a n b) env scope e =
+      let fa = scope_faults m scope ++ code_faults a env (scope ++ m.id ∷ []) in
+      let fb = scope_faults n scope ++ code_faults b env (scope ++ n.id ∷ []) in
+      let p = no_faults (term_faults env t scope) (fa ++ fb) e in
+      let q = no_faults fa fb p.1 in
+      let x = no_faults (scope_faults m scope) (code_faults a env (scope ++ m.id ∷ [])) q.0 in
+      let y = no_faults (scope_faults n scope) (code_faults b env (scope ++ n.id ∷ [])) q.1 in (
+        term_scoped env t scope p.0,
+        has_room m.at (length scope) 32 what.Scope x.0,
+        one_more a env scope m.id (code_scoped a env (scope ++ m.id ∷ []) x.1),
+        one_more b env scope n.id (code_scoped b env (scope ++ n.id ∷ []) y.1),
+      )
+
+  pub act_scoped : (a : RawAct) (env : Env) (scope : List ℕ) → act_faults a env scope ≡ [] → ActIn (act_meant a env scope) (scope_of env) (length scope)
+  act_scoped (ret t) env scope e = term_scoped env t scope e
+  act_scoped (spawn n b) env scope e = let p = no_faults (prio_faults env n) (code_faults b env scope) e in (prio_scoped env n p.0, code_scoped b env scope p.1)
+  act_scoped (sync h) env scope e = var_scoped h.at h.id scope e
+  act_scoped (call f ps ts) env scope e =
+      let p = no_faults (proc_faults env f) (prios_faults env ps ++ terms_faults env ts scope) e in
+      let q = no_faults (prios_faults env ps) (terms_faults env ts scope) p.1 in
+      (var_scoped f.at f.id env.procs p.0, prios_scoped env ps q.0, terms_scoped env ts scope q.1)
+  act_scoped (run b) env scope e = code_scoped b env scope e
+  act_scoped input env scope e = tt
+  act_scoped (output t) env scope e = term_scoped env t scope e

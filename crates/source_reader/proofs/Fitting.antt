@@ -13,10 +13,10 @@ use Rattle.source_tokens.specs.Lexemes.{is_word, is_part, begins_word, is_digit}
 use Rattle.source_tokens.specs.Lexes.{Spells, word, sign, number, old_name, new_name, Lexes, done, bad_byte, bad_number, too_deep, next, IsLexed}
 use Rattle.source_tokens.specs.Laws.{IsNameBelow, AreNamesBelow}
 use Rattle.source_tokens.proofs.Lawful.{lexed_lawful}
-use Rattle.source_grammar.specs.declared.raw.RawDecl.{RawDecl}
-use Rattle.source_grammar.specs.RawTree.{RawTerm, RawCode, RawBody, RawAct, WrittenType, RawRoutine, RawTree}
-use Rattle.source_grammar.specs.Grammar.{IsWritten, is_int, IsExpr, is_var, is_number, IsBlock, is_block, IsBody, is_give, is_bind, IsAction, is_ret, is_spawn, is_sync, IsDecls, no_more, is_priority, is_order, IsMain, is_main, IsProgram, is_program}
-use Rattle.source_reader.specs.Fits.{TermFits, CodeFits, BodyFits, ActFits, DeclsFit, Fits}
+use Rattle.source_grammar.specs.declared.raw.Name.{Name}
+use Rattle.source_grammar.specs.RawTree.{RawType, RawTerm, RawCode, RawBody, RawAct, WrittenType, Parameter, RawProcedure, Declaration, RawRoutine, RawTree}
+use Rattle.source_grammar.specs.Grammar.{IsSeparated, IsListed, IsName, IsType, IsWritten, IsExpr, IsPriorities, IsBlock, IsBody, IsAction, IsGiven, IsParameter, IsHead, IsRoutine, IsProcedure, IsDecls, IsMain, IsProgram}
+use Rattle.source_reader.specs.Fits.{TermFits, TermsFit, CodeFits, BodyFits, ActFits, DeclsFit, BodiesFit, Fits}
 
 -- a name is one of so many, and a number is below two to the 63
 abbrev KindFits : ℕ → Kind → Type 0
@@ -93,33 +93,105 @@ lexed_ascii text ts ns end h = names_ascii h (All-nil IsAscii)
 
 -- each form has the numbers of its tokens
 module _ (n : ℕ) where
-  expr_fits : {ts rest : List Token} {e : RawTerm} → IsExpr ts rest e → TokensFit n ts → TermFits e × TokensFit n rest
-  expr_fits (is_var m) h = (tt, h.1)
-  expr_fits (is_number at v) h = (h.0, h.1)
+  -- the tokens behind a form fit, where they all do
+  abbrev Leaves : {A : Type 0} → (List Token → List Token → A → Type 0) → Type 0
+  Leaves {A} Is = (ts rest : List Token) (x : A) → Is ts rest x → TokensFit n ts → TokensFit n rest
 
-  written_fits : {ts rest : List Token} {w : WrittenType} → IsWritten ts rest w → TokensFit n ts → TokensFit n rest
-  written_fits (is_int at) h = h.1
+  behind_separated : {A : Type 0} (Is : List Token → List Token → A → Type 0) {ts rest : List Token} {xs : List A} → Leaves Is → IsSeparated Is ts rest xs → TokensFit n ts → TokensFit n rest
+  behind_separated Is leaves (IsSeparated.one x) h = leaves _ _ _ x h
+  behind_separated Is leaves (IsSeparated.more comma x xs) h = behind_separated Is leaves xs (leaves _ _ _ x h).1
+
+  behind_listed : {A : Type 0} (Is : List Token → List Token → A → Type 0) {ts rest : List Token} {xs : List A} → Leaves Is → IsListed Is ts rest xs → TokensFit n ts → TokensFit n rest
+  behind_listed Is leaves IsListed.none h = h
+  behind_listed Is leaves (IsListed.some xs) h = behind_separated Is leaves xs h
+
+  behind_name : (ts rest : List Token) (x : Name) → IsName ts rest x → TokensFit n ts → TokensFit n rest
+  behind_name ts rest x (IsName.is_name m) h = h.1
+
+  behind_type : {ts rest : List Token} {at : ℕ} {x : RawType} → IsType ts rest at x → TokensFit n ts → TokensFit n rest
+  behind_type (IsType.is_unit at) h = h.1
+  behind_type (IsType.is_bool at) h = h.1
+  behind_type (IsType.is_int at) h = h.1
+  behind_type (IsType.is_pair at star close i j x y) h = (behind_type y (behind_type x h.1).1).1
+  behind_type (IsType.is_sum at plus close i j x y) h = (behind_type y (behind_type x h.1).1).1
+  behind_type (IsType.is_thread at a b c close i p x) h = (behind_type x h.1.1.1.1.1).1
+
+  behind_written : {ts rest : List Token} {w : WrittenType} → IsWritten ts rest w → TokensFit n ts → TokensFit n rest
+  behind_written (IsWritten.is_written x) h = behind_type x h
+
+  expr_fits : {ts rest : List Token} {e : RawTerm} → IsExpr ts rest e → TokensFit n ts → TermFits e × TokensFit n rest
+  expr_fits (IsExpr.is_var m) h = (tt, h.1)
+  expr_fits (IsExpr.is_number at v) h = (h.0, h.1)
+  expr_fits (IsExpr.is_true at) h = (tt, h.1)
+  expr_fits (IsExpr.is_false at) h = (tt, h.1)
+  expr_fits (IsExpr.is_nothing at close) h = (tt, h.1.1)
+  expr_fits (IsExpr.is_inside at close x) h = let a = expr_fits x h.1 in (a.0, a.1.1)
+  expr_fits (IsExpr.is_both at comma close x y) h = let a = expr_fits x h.1 in let b = expr_fits y a.1.1 in ((a.0, b.0), b.1.1)
+  expr_fits (IsExpr.is_binary at mid close kind op x o y) h = let a = expr_fits x h.1 in let b = expr_fits y a.1.1 in ((a.0, b.0), b.1.1)
+  expr_fits (IsExpr.is_first at a close x) h = let p = expr_fits x h.1.1 in (p.0, p.1.1)
+  expr_fits (IsExpr.is_second at a close x) h = let p = expr_fits x h.1.1 in (p.0, p.1.1)
+  expr_fits (IsExpr.is_negated at a close x) h = let p = expr_fits x h.1.1 in (p.0, p.1.1)
+  expr_fits (IsExpr.is_left at a b c close t x) h = let p = expr_fits x (behind_written t h.1.1).1.1 in (p.0, p.1.1)
+  expr_fits (IsExpr.is_right at a b c close t x) h = let p = expr_fits x (behind_written t h.1.1).1.1 in (p.0, p.1.1)
+
+  exprs_fit : {ts rest : List Token} {es : List RawTerm} → IsSeparated IsExpr ts rest es → TokensFit n ts → TermsFit es × TokensFit n rest
+  exprs_fit (IsSeparated.one x) h = let a = expr_fits x h in ((a.0, tt), a.1)
+  exprs_fit (IsSeparated.more comma x xs) h = let a = expr_fits x h in let b = exprs_fit xs a.1.1 in ((a.0, b.0), b.1)
+
+  listed_fit : {ts rest : List Token} {es : List RawTerm} → IsListed IsExpr ts rest es → TokensFit n ts → TermsFit es × TokensFit n rest
+  listed_fit IsListed.none h = (tt, h)
+  listed_fit (IsListed.some xs) h = exprs_fit xs h
+
+  behind_priorities : {ts rest : List Token} {ns : List Name} → IsPriorities ts rest ns → TokensFit n ts → TokensFit n rest
+  behind_priorities (IsPriorities.absent at) h = h
+  behind_priorities (IsPriorities.present at close ns) h = (behind_listed IsName behind_name ns h.1).1
 
   mutual
     block_fits : {ts rest : List Token} {c : RawCode} → IsBlock ts rest c → TokensFit n ts → CodeFits c × TokensFit n rest
-    block_fits (is_block at close b) h = let x = body_fits b h.1 in (x.0, x.1.1)
+    block_fits (IsBlock.is_block at close b) h = let x = body_fits b h.1 in (x.0, x.1.1)
 
     body_fits : {ts rest : List Token} {b : RawBody} → IsBody ts rest b → TokensFit n ts → BodyFits b × TokensFit n rest
-    body_fits (is_give at e) h = expr_fits e h.1
-    body_fits (is_bind m arrow at end a b) h = let x = action_fits a h.1.1 in let y = body_fits b x.1.1 in ((x.0, y.0), y.1)
+    body_fits (IsBody.is_give at e) h = expr_fits e h.1
+    body_fits (IsBody.is_branch at other e x y) h = let p = expr_fits e h.1 in let a = block_fits x p.1 in let b = block_fits y a.1.1 in ((p.0, a.0, b.0), b.1)
+    body_fits (IsBody.is_split at i j m o e x y) h = let p = expr_fits e h.1 in let a = block_fits x p.1.1.1 in let b = block_fits y a.1.1.1 in ((p.0, a.0, b.0), b.1)
+    body_fits (IsBody.is_bind m arrow at end a b) h = let x = action_fits a h.1.1 in let y = body_fits b x.1.1 in ((x.0, y.0), y.1)
 
     action_fits : {ts rest : List Token} {at : ℕ} {a : RawAct} → IsAction ts rest at a → TokensFit n ts → ActFits a × TokensFit n rest
-    action_fits (is_ret at e) h = expr_fits e h.1
-    action_fits (is_spawn at from close p b) h = block_fits b h.1.1.1.1
-    action_fits (is_sync at m) h = (tt, h.1.1)
+    action_fits (IsAction.is_ret at e) h = expr_fits e h.1
+    action_fits (IsAction.is_spawn at from close p b) h = block_fits b h.1.1.1.1
+    action_fits (IsAction.is_sync at m) h = (tt, h.1.1)
+    action_fits (IsAction.is_call at from close f ps es) h = let x = listed_fit es (behind_priorities ps h.1.1).1 in (x.0, x.1.1)
+    action_fits (IsAction.is_run at b) h = block_fits b h.1
+    action_fits (IsAction.is_input at) h = (tt, h.1)
+    action_fits (IsAction.is_output at e) h = expr_fits e h.1
 
-  decls_fit : {ts rest : List Token} {ds : List RawDecl} → IsDecls ts rest ds → TokensFit n ts → DeclsFit n ds × TokensFit n rest
-  decls_fit no_more h = (tt, h)
-  decls_fit (is_priority at end m ds) h = let x = decls_fit ds h.1.1.1 in ((h.1.0, x.0), x.1)
-  decls_fit (is_order at less end m o ds) h = decls_fit ds h.1.1.1.1.1
+  behind_given : (ts rest : List Token) (x : Name × Name) → IsGiven ts rest x → TokensFit n ts → TokensFit n rest
+  behind_given ts rest x (IsGiven.is_given p q at) h = h.1.1.1
+
+  behind_parameter : (ts rest : List Token) (x : Parameter) → IsParameter ts rest x → TokensFit n ts → TokensFit n rest
+  behind_parameter ts rest x (IsParameter.is_parameter m colon t) h = behind_written t h.1.1
+
+  behind_head : {ts rest : List Token} {ns : List Name} {gs : List (Name × Name)} → IsHead ts rest ns gs → TokensFit n ts → TokensFit n rest
+  behind_head (IsHead.absent at) h = h
+  behind_head (IsHead.free at close ns) h = (behind_listed IsName behind_name ns h.1).1
+  behind_head (IsHead.bound at mid close ns gs) h = (behind_separated IsGiven behind_given gs (behind_listed IsName behind_name ns h.1).1).1
+
+  routine_fits : {ts rest : List Token} {at : ℕ} {r : RawRoutine} → IsRoutine ts rest at r → TokensFit n ts → CodeFits r.body × TokensFit n rest
+  routine_fits (IsRoutine.is_routine at by colon own t b) h = block_fits b (behind_written t h.1.1.1)
+
+  procedure_fits : {ts rest : List Token} {f : RawProcedure} → IsProcedure ts rest f → TokensFit n ts → (f.name.id < n) × CodeFits f.routine.body × TokensFit n rest
+  procedure_fits (IsProcedure.is_procedure at from close m head ps r) h =
+      let x = routine_fits r (behind_listed IsParameter behind_parameter ps (behind_head head h.1.1).1).1 in
+      (h.1.0, x.0, x.1)
+
+  decls_fit : {ts rest : List Token} {ds : List Declaration} → IsDecls ts rest ds → TokensFit n ts → DeclsFit n ds × BodiesFit ds × TokensFit n rest
+  decls_fit IsDecls.no_more h = (tt, tt, h)
+  decls_fit (IsDecls.is_priority at end m ds) h = let x = decls_fit ds h.1.1.1 in ((h.1.0, x.0), x.1, x.2)
+  decls_fit (IsDecls.is_order at less end m o ds) h = decls_fit ds h.1.1.1.1.1
+  decls_fit (IsDecls.is_declared f ds) h = let y = procedure_fits f h in let x = decls_fit ds y.2 in ((y.0, x.0), (y.1, x.1), x.2)
 
   main_fits : {ts rest : List Token} {m : RawRoutine} → IsMain ts rest m → TokensFit n ts → CodeFits m.body
-  main_fits (is_main at by colon own ty b) h = (block_fits b (written_fits ty h.1.1.1.1)).0
+  main_fits (IsMain.is_main at r) h = (routine_fits r h.1).0
 
   pub program_fits : {ts : List Token} {p : RawTree} → IsProgram ts p → TokensFit n ts → Fits n p
-  program_fits (is_program ds m) h = let x = decls_fit ds h in record { decls = x.0; body = main_fits m x.1 }
+  program_fits (IsProgram.is_program ds m) h = let x = decls_fit ds h in record { decls = x.0; bodies = x.1; body = main_fits m x.2 }

@@ -1,10 +1,16 @@
 pub mod Lists
 pub mod Lookup
+pub mod Indexed
 pub mod RawBlocks
 pub mod Walk
-pub mod Tables
 pub mod Clean
+pub mod Tables
+pub mod Routines
+pub mod Ordered
+pub mod Runs
+pub mod InOrder
+pub mod Declarations
 pub mod Spelled
 pub mod Fitting
 pub mod Standing
-mod Worked
+pub mod Worked

@@ -1,6 +1,7 @@
 -- Laws of lists of faults.
-use Rattle.std.proofs.Common.{◌≡◌, ℕ, ◌<◌, ◌≤◌, Bool, true, false, nat_lt, not, is_some, Option, Some, None, unwrap_or, List, [], ◌∷◌, ◌++◌, Ok, Err, Result, arith, sym, refl, ap, subst}
+use Rattle.std.proofs.Common.{◌≡◌, ℕ, ◌<◌, ◌≤◌, ◌-◌, ◌^◌, Bool, true, false, nat_lt, nat_le, min, not, is_some, Option, Some, None, unwrap_or, List, [], ◌∷◌, ◌++◌, Ok, Err, Result, arith, sym, refl, ap, subst}
 use Rattle.std.proofs.lemmas.Bool.Decides.{nat_tests}
+use Rattle.std.proofs.lemmas.Grind.{common_steps}
 use Rattle.std.specs.Result.{IsErrAnd}
 use Rattle.source_reader.specs.declared.faults.Fault.{Fault}
 use Rattle.source_reader.specs.declared.faults.Fault.TheVariants.{TooMany}
@@ -15,10 +16,18 @@ pub gives_first : (fs gs hs : List Fault) (e : ResolveStop) → fs ≡ gs ++ hs 
 gives_first fs gs hs (stop.Fault f) p g = (g.0 ++ hs, rw (p, g.1) refl)
 gives_first fs gs hs stop.OutOfMemory p g = tt
 
+-- so is that of a second part, where the first has none
+pub gives_second : (fs es gs hs : List Fault) (e : ResolveStop) → fs ≡ es ++ (gs ++ hs) → es ≡ [] → First gs e → First fs e
+gives_second fs es gs hs e p none g = gives_first fs gs hs e (rw (p, none) refl) g
+
 -- the error that a `?` hands on
 pub handed_on : {A B : Type 0} (fs : List Fault) (made : B) (read : A → B) (e : ResolveStop) (result : Result A ResolveStop) → IsErrAnd result (λ y. y ≡ e) → First fs e → Gives fs made read result
 handed_on fs made read e (Ok x) is h = absurd is
 handed_on fs made read e (Err y) is h = subst (First fs) (sym is) h
+
+-- the error of the first part, where more come behind it
+pub handed_left : {A B : Type 0} (gs hs : List Fault) (made : B) (read : A → B) (e : ResolveStop) (result : Result A ResolveStop) → IsErrAnd result (λ y. y ≡ e) → First gs e → Gives (gs ++ hs) made read result
+handed_left gs hs made read e result is h = handed_on (gs ++ hs) made read e result is (gives_first (gs ++ hs) gs hs e refl h)
 
 pub found_first : {A : Type 0} (fs : List Fault) (e : ResolveStop) (result : Result A ResolveStop) → IsErrAnd result (λ y. y ≡ e) → First fs e → Finds fs result
 found_first fs e (Ok x) is h = absurd is
@@ -43,6 +52,13 @@ room at have most what h = let t : nat_lt have most ≡ true = grind (arith, nat
 
 pub has_room : (at have most : ℕ) (what : What) → room_faults at have most what ≡ [] → have < most
 has_room at have most what e = let t : nat_lt have most ≡ true = holds (nat_lt have most) (TooMany at what) e in grind (arith, nat_tests)
+
+-- a type of more than 16 nodes is the first fault
+pub crowded : (at n k : ℕ) (what : What) (more : List Fault) → k ≡ min n (2 ^ 64 - 1) → 16 < k → First (unless (nat_le n 16) (TooMany at what) ++ more) (stop.Fault (TooMany at what))
+crowded at n k what more e h =
+    let l : 16 < n = grind (arith, common_steps) in
+    let t : nat_le n 16 ≡ false = grind (arith, nat_tests) in
+    (more, ap (λ b. unless b (TooMany at what) ++ more) t)
 
 -- a name that is known already is the first fault
 pub twice : (b : Bool) (f : Fault) (more : List Fault) → b ≡ true → First (unless (not b) f ++ more) (stop.Fault f)

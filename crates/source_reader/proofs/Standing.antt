@@ -1,25 +1,144 @@
--- What a tree without faults says of the program that is made of it.
-use Rattle.std.proofs.Common.{◌≡◌, ℕ, List, [], subst, Result, Ok, Err}
-use Rattle.std.specs.Prelude.{IfOk}
+-- What a text stands for, by its tree, and what its fault is where it stands for no program.
+use Rattle.std.proofs.Common.{◌≡◌, ◌≢◌, ℕ, ◌≤◌, inr, List, [], ◌∷◌, length, slice_get, Some, None, append-nil, refl, sym, subst, ◌∙◌, arith, Result, Ok, Err}
+use Rattle.std.specs.Prelude.{IfOk, IfErr}
+use Rattle.std.proofs.lemmas.List.{take_all}
 use Rattle.priml_syntax.specs.declared.program.Program.{Program}
+use Rattle.priml_syntax.specs.Tree.{Tree}
 use Rattle.priml_syntax.specs.Read.{read_program}
 use Rattle.priml_syntax.specs.Scoped.{IsScoped}
-use Rattle.source_reader.specs.declared.reader.SourceFault.{SourceFault}
 use Rattle.source_tokens.specs.declared.token.Token.{Token}
-use Rattle.source_tokens.specs.declared.token.Stop.TheVariants.{Done}
+use Rattle.source_tokens.specs.declared.token.Stop.{Stop}
+use Rattle.source_tokens.specs.declared.token.Stop.TheVariants as stop
 use Rattle.source_tokens.specs.Lexes.{IsLexed}
+use Rattle.source_tokens.proofs.Once.{lexed_once}
 use Rattle.source_grammar.specs.RawTree.{RawTree}
 use Rattle.source_grammar.specs.Grammar.{IsProgram}
+use Rattle.source_grammar.specs.Faults.{kinds, Viable, IsUnexpected}
+use Rattle.source_reader.specs.declared.faults.Fault.{Fault}
+use Rattle.source_reader.specs.declared.reader.SourceFault.{SourceFault}
+use Rattle.source_reader.specs.declared.reader.SourceFault.TheVariants.{BadByte, BadNumber, Unexpected, UnknownName, TwiceNamed, TooDeep, TooMany, OutOfMemory}
 use Rattle.source_reader.specs.Faults.{faults}
+use Rattle.source_reader.specs.Order.{Before, Leads, Ascends}
 use Rattle.source_reader.specs.Resolved.{resolved}
-use Rattle.source_reader.specs.Stands.{Stands}
-use Rattle.source_reader.proofs.Clean.{resolved_scoped}
+use Rattle.source_reader.specs.Stands.{Stands, IsFirst, IsFaultOf, bad_byte, bad_number, too_deep, unexpected, cut_off, of_names, Refuses}
+use Rattle.source_reader.specs.Written.{IsWrittenAs, IsFirstOf, stop_fault}
+use Rattle.source_reader.proofs.Routines.{resolved_scoped}
 
-pub stands_if : (text : List ℕ) (ts : List Token) (ns : List (List ℕ)) (raw : RawTree) (result : Result Program SourceFault) → IsLexed text ts ns Done → IsProgram ts raw
+-- a refusal is a fault of a text that stands for no program
+pub refusal : (text : List ℕ) (e : SourceFault) → IsFaultOf text e → ((p : Tree) → Stands text p → ⊥) → Refuses text e
+refusal text (BadByte at) f none = (f, none)
+refusal text (BadNumber at) f none = (f, none)
+refusal text (Unexpected at) f none = (f, none)
+refusal text (UnknownName at) f none = (f, none)
+refusal text (TwiceNamed at) f none = (f, none)
+refusal text (TooDeep at) f none = (f, none)
+refusal text (TooMany at what) f none = (f, none)
+refusal text OutOfMemory f none = tt
+
+-- a text whose tokens are those of no program stands for none
+pub no_program : (text : List ℕ) (ts : List Token) (ns : List (List ℕ)) (end : Stop) → IsLexed text ts ns end → ((q : RawTree) → IsProgram ts q → ⊥) → (p : Tree) → Stands text p → ⊥
+no_program text ts ns end lexed none p s = none s.raw (subst (λ v. IsProgram v s.raw) (lexed_once text s.tokens ts s.names ns stop.Done end s.lexed lexed).0 s.derived)
+
+-- and so does one that stops before its end
+pub no_stopped : (text : List ℕ) (ts : List Token) (ns : List (List ℕ)) (end : Stop) → IsLexed text ts ns end → (stop.Done ≡ end → ⊥) → (p : Tree) → Stands text p → ⊥
+no_stopped text ts ns end lexed stopped p s = stopped (lexed_once text s.tokens ts s.names ns stop.Done end s.lexed lexed).2
+
+-- the fault at which a text stops, where all tokens before it begin some program
+pub stopped_at : (text : List ℕ) (ts : List Token) (ns : List (List ℕ)) (end : Stop) (e : SourceFault) → stop_fault end ≡ Some e → IsLexed text ts ns end → Viable (kinds ts) → Refuses text e
+stopped_at text ts ns stop.Done e is lexed viable = absurd (cc)
+stopped_at text ts ns (stop.BadByte at) e is lexed viable =
+    let same : BadByte at ≡ e = cc in
+    subst (Refuses text) same (bad_byte at lexed viable, no_stopped text ts ns (stop.BadByte at) lexed (λ q. absurd (cc)))
+stopped_at text ts ns (stop.BadNumber at) e is lexed viable =
+    let same : BadNumber at ≡ e = cc in
+    subst (Refuses text) same (bad_number at lexed viable, no_stopped text ts ns (stop.BadNumber at) lexed (λ q. absurd (cc)))
+stopped_at text ts ns (stop.TooDeep at) e is lexed viable =
+    let same : TooDeep at ≡ e = cc in
+    subst (Refuses text) same (too_deep at lexed viable, no_stopped text ts ns (stop.TooDeep at) lexed (λ q. absurd (cc)))
+
+-- the tokens of a program begin one
+pub all_viable : (ts : List Token) (q : RawTree) → IsProgram ts q → Viable (kinds ts)
+all_viable ts q is = record { tokens = ts; more = []; tree = q; same = refl; is = subst (λ v. IsProgram v q) (sym (append-nil ts)) is }
+
+-- a token with which the text leaves the grammar
+pub leaves : (text : List ℕ) (ts : List Token) (ns : List (List ℕ)) (end : Stop) (n : ℕ) (t : Token) → IsLexed text ts ns end → IsUnexpected ts n → slice_get ts n ≡ Some t → Refuses text (Unexpected t.at)
+leaves text ts ns end n t lexed is at = (unexpected n t lexed is at, no_program text ts ns end lexed is.none)
+
+-- all tokens begin some program and are none, and the text stops behind them
+all_before : (ts : List Token) (n : ℕ) → length ts ≤ n → IsUnexpected ts n → Viable (kinds ts)
+all_before ts n l is = subst (λ v. Viable (kinds v)) (take_all n ts l) is.before
+
+pub stops_behind : (text : List ℕ) (ts : List Token) (ns : List (List ℕ)) (end : Stop) (n : ℕ) (e : SourceFault) → length ts ≤ n → IsUnexpected ts n → stop_fault end ≡ Some e → IsLexed text ts ns end → Refuses text e
+stops_behind text ts ns end n e l is stops lexed = stopped_at text ts ns end e stops lexed (all_before ts n l is)
+
+-- or ends there
+pub ends_behind : (text : List ℕ) (ts : List Token) (ns : List (List ℕ)) (end : Stop) (n : ℕ) → length ts ≤ n → IsUnexpected ts n → stop_fault end ≡ None → IsLexed text ts ns end → Refuses text (Unexpected (length text))
+ends_behind text ts ns stop.Done n l is ends lexed =
+    let w = is.within in
+    let same : n ≡ length ts = omega (arith, l, w) in
+    (cut_off lexed (subst (IsUnexpected ts) same is), no_program text ts ns stop.Done lexed is.none)
+ends_behind text ts ns (stop.BadByte at) n l is ends lexed = absurd (cc)
+ends_behind text ts ns (stop.BadNumber at) n l is ends lexed = absurd (cc)
+ends_behind text ts ns (stop.TooDeep at) n l is ends lexed = absurd (cc)
+
+-- only a text that is read to its end has no fault there
+pub is_done : (end : Stop) → stop_fault end ≡ None → end ≡ stop.Done
+is_done stop.Done e = refl
+is_done (stop.BadByte at) e = absurd (cc)
+is_done (stop.BadNumber at) e = absurd (cc)
+is_done (stop.TooDeep at) e = absurd (cc)
+
+-- no other tree is written in the text
+abbrev pub IsOnly : List ℕ → List (List ℕ) → RawTree → Type 0
+IsOnly text names raw = (ns : List (List ℕ)) (q : RawTree) → IsWrittenAs text ns q → (ns ≡ names) × (q ≡ raw)
+
+pub only_tree : (text : List ℕ) (ts : List Token) (ns : List (List ℕ)) (raw : RawTree) → IsLexed text ts ns stop.Done → ((q : RawTree) → IsProgram ts q → q ≡ raw) → IsOnly text ns raw
+only_tree text ts ns raw lexed only ms q w =
+    let same = lexed_once text w.tokens ts ms ns stop.Done stop.Done w.lexed lexed in
+    (same.1, only q (subst (λ v. IsProgram v q) same.0 w.derived))
+
+as_written : (text : List ℕ) (p : Tree) (s : Stands text p) → IsWrittenAs text s.names s.raw
+as_written text p s = record { tokens = s.tokens; lexed = s.lexed; derived = s.derived }
+
+-- the program of a tree without faults
+pub stands_if : (text : List ℕ) (ns : List (List ℕ)) (raw : RawTree) (result : Result Program SourceFault) → IsWrittenAs text ns raw
     → IfOk result (λ p. faults raw ≡ []) → IfOk result (λ p. resolved ns raw ≡ read_program p) → IfOk result (λ p. Stands text (read_program p))
-stands_if text ts ns raw (Ok p) lexed derived clean meant = record { tokens = ts; names = ns; raw = raw; lexed = lexed; derived = derived; clean = clean; meant = meant }
-stands_if text ts ns raw (Err e) lexed derived clean meant = tt
+stands_if text ns raw (Ok p) w clean meant = record { tokens = w.tokens; names = ns; raw = raw; lexed = w.lexed; derived = w.derived; clean = clean; meant = meant }
+stands_if text ns raw (Err e) w clean meant = tt
 
 pub scoped_if : (ns : List (List ℕ)) (raw : RawTree) (result : Result Program SourceFault) → IfOk result (λ p. faults raw ≡ []) → IfOk result (λ p. resolved ns raw ≡ read_program p) → IfOk result (λ p. IsScoped (read_program p))
 scoped_if ns raw (Ok p) clean meant = subst IsScoped meant (resolved_scoped ns raw clean)
 scoped_if ns raw (Err e) clean meant = tt
+
+same_meaning : (ns ms : List (List ℕ)) (raw q : RawTree) → ms ≡ ns → q ≡ raw → resolved ms q ≡ resolved ns raw
+same_meaning ns ms raw q a b = rw (a, b) refl
+
+pub only_if : (text : List ℕ) (ns : List (List ℕ)) (raw : RawTree) (result : Result Program SourceFault) → IsOnly text ns raw
+    → IfOk result (λ p. resolved ns raw ≡ read_program p) → IfOk result (λ p. (q : Tree) → Stands text q → q ≡ read_program p)
+only_if text ns raw (Ok p) only meant = λ q s. let same = only s.names s.raw (as_written text q s) in sym s.meant ∙ same_meaning ns s.names raw s.raw same.0 same.1 ∙ meant
+only_if text ns raw (Err e) only meant = tt
+
+-- a fault is not behind itself
+before_itself : (f : Fault) → Before f f
+before_itself f = inr (refl, omega arith)
+
+-- the first fault of names and limits is the fault of the text
+names_fault : (text : List ℕ) (ns : List (List ℕ)) (raw : RawTree) (e : SourceFault) → IsWrittenAs text ns raw → IsOnly text ns raw → Ascends (faults raw) → IsFirstOf (faults raw) e → Refuses text e
+names_fault text ns raw e w only up first =
+    let f = first.fault in
+    let leads : Leads f (f ∷ first.rest) = (before_itself f, (subst Ascends first.among up).0) in
+    let is : IsFirst f (faults raw) = record { before = []; after = first.rest; among = first.among; leads = subst (Leads f) (sym first.among) leads } in
+    let none : (p : Tree) → Stands text p → ⊥ = λ p s. let same = only s.names s.raw (as_written text p s) in let c : faults raw ≡ [] = subst (λ q. faults q ≡ []) same.1 s.clean in let d : ◌≡◌ {A = List Fault} [] (f ∷ first.rest) = sym c ∙ first.among in absurd (cc) in
+    refusal text e (subst (IsFaultOf text) (sym first.is) (of_names f w.lexed w.derived is)) none
+
+pub refused_if : (text : List ℕ) (ns : List (List ℕ)) (raw : RawTree) (result : Result Program SourceFault) → IsWrittenAs text ns raw → IsOnly text ns raw → Ascends (faults raw)
+    → IfErr result (λ e. e ≢ OutOfMemory → IsFirstOf (faults raw) e) → IfErr result (Refuses text)
+refused_if text ns raw (Ok p) w only up h = tt
+refused_if text ns raw (Err (BadByte at)) w only up h = names_fault text ns raw (BadByte at) w only up (h (λ q. absurd (cc)))
+refused_if text ns raw (Err (BadNumber at)) w only up h = names_fault text ns raw (BadNumber at) w only up (h (λ q. absurd (cc)))
+refused_if text ns raw (Err (Unexpected at)) w only up h = names_fault text ns raw (Unexpected at) w only up (h (λ q. absurd (cc)))
+refused_if text ns raw (Err (UnknownName at)) w only up h = names_fault text ns raw (UnknownName at) w only up (h (λ q. absurd (cc)))
+refused_if text ns raw (Err (TwiceNamed at)) w only up h = names_fault text ns raw (TwiceNamed at) w only up (h (λ q. absurd (cc)))
+refused_if text ns raw (Err (TooDeep at)) w only up h = names_fault text ns raw (TooDeep at) w only up (h (λ q. absurd (cc)))
+refused_if text ns raw (Err (TooMany at what)) w only up h = names_fault text ns raw (TooMany at what) w only up (h (λ q. absurd (cc)))
+refused_if text ns raw (Err OutOfMemory) w only up h = tt

@@ -1,79 +1,143 @@
 -- The faults of a program's names and limits, in the order of its text. Where two stand at one place, the one that counts is the first.
-use Rattle.std.specs.Prelude.{ℕ, ◌+◌, Bool, true, false, not, is_some, nat_lt, List, [], ◌∷◌, ◌++◌, length}
+use Rattle.std.specs.Prelude.{ℕ, ◌+◌, Bool, true, false, not, is_some, nat_lt, nat_le, List, [], ◌∷◌, ◌++◌, length}
 use Rattle.source_grammar.specs.declared.raw.Name.{Name}
-use Rattle.source_grammar.specs.declared.raw.RawDecl.{RawDecl}
-use Rattle.source_grammar.specs.declared.raw.RawDecl.TheVariants.{Priority, Order}
-use Rattle.source_grammar.specs.RawTree.{RawTerm, var, number, RawCode, block, RawBody, bind, give, RawAct, ret, spawn, sync, RawRoutine, RawTree}
+use Rattle.source_grammar.specs.RawTree.{RawType, unit, bool, int, pair, sum, thread, WrittenType, RawTerm, var, number, truth, nothing, both, first, second, left, right, binary, negated, RawCode, block, RawBody, bind, give, branch, split, RawAct, ret, spawn, sync, call, run, input, output, Parameter, RawProcedure, Declaration, priority, order, procedure, RawRoutine, RawTree}
 use Rattle.source_reader.specs.declared.faults.What.{What}
-use Rattle.source_reader.specs.declared.faults.What.TheVariants.{Priorities, Pairs, Scope}
+use Rattle.source_reader.specs.declared.faults.What.TheVariants.{Priorities, Pairs, Procedures, PrioVars, Constraints, Parameters, Scope, TypeNodes}
 use Rattle.source_reader.specs.declared.faults.Fault.{Fault}
 use Rattle.source_reader.specs.declared.faults.Fault.TheVariants.{UnknownName, TwiceNamed, TooMany}
-use Rattle.source_reader.specs.Names.{lookup, priorities}
+use Rattle.source_reader.specs.Names.{is_among, priorities, procedures, pairs_in, param_ids, Env, prio_in, env_of, with_vars}
 
 -- the fault, unless the test holds
 abbrev pub unless : Bool → Fault → List Fault
 unless true f = []
 unless false f = f ∷ []
 
--- a priority that no text declares
-abbrev pub prio_faults : (ℕ → Bool) → Name → List Fault
-prio_faults declared n = unless (declared n.id) (UnknownName n.at)
+-- a name that is no priority here
+abbrev pub prio_faults : Env → Name → List Fault
+prio_faults env n = unless (is_some (prio_in env n.id)) (UnknownName n.at)
+
+abbrev pub prios_faults : Env → List Name → List Fault
+prios_faults env [] = []
+prios_faults env (n ∷ ns) = prio_faults env n ++ prios_faults env ns
+
+-- a name that is no procedure
+abbrev pub proc_faults : Env → Name → List Fault
+proc_faults env n = unless (is_among n.id env.procs) (UnknownName n.at)
 
 -- a variable that is not in scope
 abbrev pub var_faults : ℕ → ℕ → List ℕ → List Fault
-var_faults at id scope = unless (is_some (lookup id scope)) (UnknownName at)
+var_faults at id scope = unless (is_among id scope) (UnknownName at)
 
 -- one more of a kind of which there are so many, and may be at most so many
 abbrev pub room_faults : ℕ → ℕ → ℕ → What → List Fault
 room_faults at have most what = unless (nat_lt have most) (TooMany at what)
 
+-- a name that is declared again, where these are declared before it, or that is one too many
+abbrev pub again_faults : Name → List ℕ → ℕ → What → List Fault
+again_faults n before most what = unless (not (is_among n.id before)) (TwiceNamed n.at) ++ room_faults n.at (length before) most what
+
+-- the nodes of a type
+abbrev pub raw_nodes : RawType → ℕ
+raw_nodes unit = 1
+raw_nodes bool = 1
+raw_nodes int = 1
+raw_nodes (pair a b) = 1 + (raw_nodes a + raw_nodes b)
+raw_nodes (sum a b) = 1 + (raw_nodes a + raw_nodes b)
+raw_nodes (thread p a) = 1 + raw_nodes a
+
+abbrev pub type_faults : Env → RawType → List Fault
+type_faults env unit = []
+type_faults env bool = []
+type_faults env int = []
+type_faults env (pair a b) = type_faults env a ++ type_faults env b
+type_faults env (sum a b) = type_faults env a ++ type_faults env b
+type_faults env (thread p a) = prio_faults env p ++ type_faults env a
+
+-- a written type has at most 16 nodes
+abbrev pub written_faults : Env → WrittenType → List Fault
+written_faults env w = unless (nat_le (raw_nodes w.ty) 16) (TooMany w.at TypeNodes) ++ type_faults env w.ty
+
 -- an expression, by the names of the variables in scope, the outermost first
-abbrev pub term_faults : RawTerm → List ℕ → List Fault
-term_faults (var at id) scope = var_faults at id scope
-term_faults (number at n) scope = []
+abbrev pub term_faults : Env → RawTerm → List ℕ → List Fault
+term_faults env (var at id) scope = var_faults at id scope
+term_faults env (number at n) scope = []
+term_faults env (truth at b) scope = []
+term_faults env (nothing at) scope = []
+term_faults env (both at a b) scope = term_faults env a scope ++ term_faults env b scope
+term_faults env (first at a) scope = term_faults env a scope
+term_faults env (second at a) scope = term_faults env a scope
+term_faults env (left at w a) scope = written_faults env w ++ term_faults env a scope
+term_faults env (right at w a) scope = written_faults env w ++ term_faults env a scope
+term_faults env (binary at op a b) scope = term_faults env a scope ++ term_faults env b scope
+term_faults env (negated at a) scope = term_faults env a scope
 
--- blocks, bodies and actions, by which names are declared priorities, and by the names of the variables in scope
+abbrev pub terms_faults : Env → List RawTerm → List ℕ → List Fault
+terms_faults env [] scope = []
+terms_faults env (e ∷ es) scope = term_faults env e scope ++ terms_faults env es scope
+
+-- one variable more in scope, of which at most 32 are, hidden ones too
+abbrev pub scope_faults : Name → List ℕ → List Fault
+scope_faults n scope = room_faults n.at (length scope) 32 Scope
+
+-- blocks, bodies and actions
 abbrev mutual
-  pub code_faults : RawCode → (ℕ → Bool) → List ℕ → List Fault
-  code_faults (block at b) declared scope = body_faults b declared scope
+  pub code_faults : RawCode → Env → List ℕ → List Fault
+  code_faults (block at b) env scope = body_faults b env scope
 
-  -- a bound name is in scope from the next action on, and at most 32 variables are in scope, hidden ones too
-  pub body_faults : RawBody → (ℕ → Bool) → List ℕ → List Fault
-  body_faults (bind n at a rest) declared scope = room_faults n.at (length scope) 32 Scope ++ (act_faults a declared scope ++ body_faults rest declared (scope ++ n.id ∷ []))
-  body_faults (give at e) declared scope = term_faults e scope
+  -- a bound name is in scope from the next action on, and the variable of a branch in it
+  pub body_faults : RawBody → Env → List ℕ → List Fault
+  body_faults (bind n at a rest) env scope = scope_faults n scope ++ (act_faults a env scope ++ body_faults rest env (scope ++ n.id ∷ []))
+  body_faults (give at e) env scope = term_faults env e scope
+  body_faults (branch at e a b) env scope = term_faults env e scope ++ (code_faults a env scope ++ code_faults b env scope)
+  body_faults (split at e m a n b) env scope =
+      term_faults env e scope ++ ((scope_faults m scope ++ code_faults a env (scope ++ m.id ∷ [])) ++ (scope_faults n scope ++ code_faults b env (scope ++ n.id ∷ [])))
 
   -- a block inside a block sees the scope at its place
-  pub act_faults : RawAct → (ℕ → Bool) → List ℕ → List Fault
-  act_faults (ret e) declared scope = term_faults e scope
-  act_faults (spawn p b) declared scope = prio_faults declared p ++ code_faults b declared scope
-  act_faults (sync h) declared scope = var_faults h.at h.id scope
+  pub act_faults : RawAct → Env → List ℕ → List Fault
+  act_faults (ret e) env scope = term_faults env e scope
+  act_faults (spawn p b) env scope = prio_faults env p ++ code_faults b env scope
+  act_faults (sync h) env scope = var_faults h.at h.id scope
+  act_faults (call f ps es) env scope = proc_faults env f ++ (prios_faults env ps ++ terms_faults env es scope)
+  act_faults (run b) env scope = code_faults b env scope
+  act_faults input env scope = []
+  act_faults (output e) env scope = term_faults env e scope
 
--- how many pairs are declared
-abbrev pub pairs_in : List RawDecl → ℕ
-pairs_in [] = 0
-pairs_in (Priority n ∷ ds) = pairs_in ds
-pairs_in (Order at m n ∷ ds) = 1 + pairs_in ds
+-- priority variables, behind these
+abbrev pub vars_faults : List Name → List ℕ → List Fault
+vars_faults [] before = []
+vars_faults (n ∷ ns) before = again_faults n before 8 PrioVars ++ vars_faults ns (before ++ n.id ∷ [])
 
--- a declaration, where these priorities and so many pairs are declared before it
-abbrev pub decl_faults : RawDecl → (ℕ → Bool) → List ℕ → ℕ → List Fault
-decl_faults (Priority n) declared names pairs = unless (not (is_some (lookup n.id names))) (TwiceNamed n.at) ++ room_faults n.at (length names) 16 Priorities
-decl_faults (Order at m n) declared names pairs = room_faults at pairs 256 Pairs ++ (prio_faults declared m ++ prio_faults declared n)
+-- constraints, behind so many
+abbrev pub givens_faults : Env → List (Name × Name) → ℕ → List Fault
+givens_faults env [] before = []
+givens_faults env (g ∷ gs) before = (prio_faults env g.0 ++ (room_faults g.0.at before 16 Constraints ++ prio_faults env g.1)) ++ givens_faults env gs (before + 1)
 
--- declarations, after those before them
-abbrev pub decls_faults : List RawDecl → (ℕ → Bool) → List RawDecl → List Fault
-decls_faults [] declared before = []
-decls_faults (d ∷ ds) declared before = decl_faults d declared (priorities before) (pairs_in before) ++ decls_faults ds declared (before ++ d ∷ [])
+-- parameters, behind these
+abbrev pub params_faults : Env → List Parameter → List ℕ → List Fault
+params_faults env [] before = []
+params_faults env (p ∷ ps) before = (again_faults p.name before 8 Parameters ++ written_faults env p.ty) ++ params_faults env ps (before ++ p.name.id ∷ [])
 
-abbrev pub main_faults : RawRoutine → (ℕ → Bool) → List Fault
-main_faults m declared = prio_faults declared m.own ++ code_faults m.body declared []
+-- a procedure behind its name
+abbrev pub procedure_faults : Env → RawProcedure → List Fault
+procedure_faults outer f =
+    let env = with_vars outer f.vars in
+    vars_faults f.vars [] ++ (givens_faults env f.given 0 ++ (params_faults env f.params [] ++ (prio_faults env f.routine.own ++ (written_faults env f.routine.result ++ code_faults f.routine.body env (param_ids f.params)))))
 
-abbrev pub program_faults : RawTree → (ℕ → Bool) → List Fault
-program_faults p declared = decls_faults p.decls declared [] ++ main_faults p.main declared
+-- a declaration, behind those before it
+abbrev pub decl_faults : Env → Declaration → List Declaration → List Fault
+decl_faults env (priority n) before = again_faults n (priorities before) 16 Priorities
+decl_faults env (order at m n) before = room_faults at (pairs_in before) 256 Pairs ++ (prio_faults env m ++ prio_faults env n)
+decl_faults env (procedure f) before = again_faults f.name (procedures before) 256 Procedures ++ procedure_faults env f
 
--- a priority is declared wherever in the text its declaration stands
-abbrev pub is_declared : List RawDecl → ℕ → Bool
-is_declared ds id = is_some (lookup id (priorities ds))
+-- declarations, behind those before them
+abbrev pub decls_faults : Env → List Declaration → List Declaration → List Fault
+decls_faults env [] before = []
+decls_faults env (d ∷ ds) before = decl_faults env d before ++ decls_faults env ds (before ++ d ∷ [])
 
--- the faults of a program
+abbrev pub main_faults : Env → RawRoutine → List Fault
+main_faults env m = prio_faults env m.own ++ (written_faults env m.result ++ code_faults m.body env [])
+
+-- the faults of a program. Priorities and procedures are known wherever in the text they are declared
 abbrev pub faults : RawTree → List Fault
-faults p = program_faults p (is_declared p.decls)
+faults p = decls_faults (env_of p.decls) p.decls [] ++ main_faults (env_of p.decls) p.main

@@ -3,4 +3,9 @@ pub mod Faults
 pub mod Resolved
 pub mod Fits
 pub mod Gives
+pub mod Known
+pub mod Bodies
+pub mod Parts
+pub mod Order
 pub mod Stands
+pub mod Written

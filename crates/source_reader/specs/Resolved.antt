@@ -1,58 +1,98 @@
 -- What a program without faults means: each name is the number of what it stands for.
-use Rattle.std.specs.Prelude.{ℕ, pos, List, [], ◌∷◌, ◌++◌, map, get_or}
-use Rattle.priml_syntax.specs.declared.prio.Prio.TheVariants.{Const}
+use Rattle.std.specs.Prelude.{ℕ, pos, List, [], ◌∷◌, ◌++◌, map, get_or, length}
+use Rattle.priml_syntax.specs.declared.prio.Prio.{Prio}
 use Rattle.priml_syntax.specs.Tree as tree
-use Rattle.priml_syntax.specs.Tree.{Type', Term, Code, Body, Act, Signature, Routine, Declared, Tree}
-use Rattle.source_grammar.specs.declared.raw.RawDecl.{RawDecl}
-use Rattle.source_grammar.specs.declared.raw.RawDecl.TheVariants.{Priority, Order}
-use Rattle.source_grammar.specs.RawTree.{RawType, int, RawTerm, var, number, RawCode, block, RawBody, bind, give, RawAct, ret, spawn, sync, RawRoutine, RawTree}
-use Rattle.source_reader.specs.Names.{place_of, priorities}
+use Rattle.priml_syntax.specs.Tree.{Type', Term, Code, Body, Act, Constraint, Signature, Routine, Declared, Tree}
+use Rattle.source_grammar.specs.declared.raw.Name.{Name}
+use Rattle.source_grammar.specs.RawTree.{RawType, unit, bool, int, pair, sum, thread, RawTerm, var, number, truth, nothing, both, first, second, left, right, binary, negated, RawCode, block, RawBody, bind, give, branch, split, RawAct, ret, spawn, sync, call, run, input, output, Parameter, RawProcedure, Declaration, priority, order, procedure, RawRoutine, RawTree}
+use Rattle.source_reader.specs.Names.{place_of, priorities, param_ids, Env, prio_of, env_of, with_vars}
 
-abbrev pub type_meant : RawType → Type'
-type_meant int = tree.int
+abbrev pub type_meant : Env → RawType → Type'
+type_meant env unit = tree.unit
+type_meant env bool = tree.bool
+type_meant env int = tree.int
+type_meant env (pair a b) = tree.pair (type_meant env a) (type_meant env b)
+type_meant env (sum a b) = tree.sum (type_meant env a) (type_meant env b)
+type_meant env (thread p a) = tree.thread (prio_of env p.id) (type_meant env a)
 
 -- an expression, by the names of the variables in scope: a variable is its place in scope, 0 for the outermost
-abbrev pub term_meant : RawTerm → List ℕ → Term
-term_meant (var at id) scope = tree.var at (place_of id scope)
-term_meant (number at n) scope = tree.number at (pos n)
+abbrev pub term_meant : Env → RawTerm → List ℕ → Term
+term_meant env (var at id) scope = tree.var at (place_of id scope)
+term_meant env (number at n) scope = tree.number at (pos n)
+term_meant env (truth at b) scope = tree.truth at b
+term_meant env (nothing at) scope = tree.nothing at
+term_meant env (both at a b) scope = tree.both at (term_meant env a scope) (term_meant env b scope)
+term_meant env (first at a) scope = tree.first at (term_meant env a scope)
+term_meant env (second at a) scope = tree.second at (term_meant env a scope)
+term_meant env (left at w a) scope = tree.left at (type_meant env w.ty) (term_meant env a scope)
+term_meant env (right at w a) scope = tree.right at (type_meant env w.ty) (term_meant env a scope)
+term_meant env (binary at op a b) scope = tree.binary at op (term_meant env a scope) (term_meant env b scope)
+term_meant env (negated at a) scope = tree.negated at (term_meant env a scope)
 
--- blocks, bodies and actions, by the numbers of the priorities' names, and by the names of the variables in scope
+abbrev pub terms_meant : Env → List RawTerm → List ℕ → List Term
+terms_meant env es scope = map (λ (e : RawTerm). term_meant env e scope) es
+
+abbrev pub prios_meant : Env → List Name → List Prio
+prios_meant env ns = map (λ (n : Name). prio_of env n.id) ns
+
+-- blocks, bodies and actions
 abbrev mutual
-  pub code_meant : RawCode → (ℕ → ℕ) → List ℕ → Code
-  code_meant (block at b) prio scope = tree.block at (body_meant b prio scope)
+  pub code_meant : RawCode → Env → List ℕ → Code
+  code_meant (block at b) env scope = tree.block at (body_meant b env scope)
 
-  pub body_meant : RawBody → (ℕ → ℕ) → List ℕ → Body
-  body_meant (bind n at a rest) prio scope = tree.bind at (act_meant a prio scope) (body_meant rest prio (scope ++ n.id ∷ []))
-  body_meant (give at e) prio scope = tree.give at (term_meant e scope)
+  pub body_meant : RawBody → Env → List ℕ → Body
+  body_meant (bind n at a rest) env scope = tree.bind at (act_meant a env scope) (body_meant rest env (scope ++ n.id ∷ []))
+  body_meant (give at e) env scope = tree.give at (term_meant env e scope)
+  body_meant (branch at e a b) env scope = tree.branch at (term_meant env e scope) (code_meant a env scope) (code_meant b env scope)
+  body_meant (split at e m a n b) env scope = tree.split at (term_meant env e scope) (code_meant a env (scope ++ m.id ∷ [])) (code_meant b env (scope ++ n.id ∷ []))
 
-  pub act_meant : RawAct → (ℕ → ℕ) → List ℕ → Act
-  act_meant (ret e) prio scope = tree.ret (term_meant e scope)
-  act_meant (spawn p b) prio scope = tree.spawn (Const (prio p.id)) (code_meant b prio scope)
-  act_meant (sync h) prio scope = tree.sync (place_of h.id scope)
+  pub act_meant : RawAct → Env → List ℕ → Act
+  act_meant (ret e) env scope = tree.ret (term_meant env e scope)
+  act_meant (spawn p b) env scope = tree.spawn (prio_of env p.id) (code_meant b env scope)
+  act_meant (sync h) env scope = tree.sync (place_of h.id scope)
+  act_meant (call f ps es) env scope = tree.call (place_of f.id env.procs) (prios_meant env ps) (terms_meant env es scope)
+  act_meant (run b) env scope = tree.run (code_meant b env scope)
+  act_meant input env scope = tree.input
+  act_meant (output e) env scope = tree.output (term_meant env e scope)
 
--- the declared pairs, in order
-abbrev pub pairs_meant : List RawDecl → (ℕ → ℕ) → List Declared
-pairs_meant [] prio = []
-pairs_meant (Priority n ∷ ds) prio = pairs_meant ds prio
-pairs_meant (Order at m n ∷ ds) prio = record { at = at; pair = (prio m.id, prio n.id) } ∷ pairs_meant ds prio
+abbrev pub given_meant : Env → Name × Name → Constraint
+given_meant env g = (prio_of env g.0.id, prio_of env g.1.id)
+
+abbrev pub param_meant : Env → Parameter → Type'
+param_meant env p = type_meant env p.ty.ty
+
+abbrev pub proc_meant : Env → RawProcedure → Routine
+proc_meant outer f =
+    let env = with_vars outer f.vars in
+    record {
+      at = f.routine.at;
+      declares = record { vars = length f.vars; given = map (given_meant env) f.given; params = map (param_meant env) f.params; own = prio_of env f.routine.own.id; gives = type_meant env f.routine.result.ty };
+      body = code_meant f.routine.body env (param_ids f.params);
+    }
+
+-- the procedures, in order
+abbrev pub procs_meant : Env → List Declaration → List Routine
+procs_meant env [] = []
+procs_meant env (priority n ∷ ds) = procs_meant env ds
+procs_meant env (order at m n ∷ ds) = procs_meant env ds
+procs_meant env (procedure f ∷ ds) = proc_meant env f ∷ procs_meant env ds
+
+-- the declared pairs, in order, by the numbers of the priorities
+abbrev pub pairs_meant : List ℕ → List Declaration → List Declared
+pairs_meant prios [] = []
+pairs_meant prios (priority n ∷ ds) = pairs_meant prios ds
+pairs_meant prios (order at m n ∷ ds) = record { at = at; pair = (place_of m.id prios, place_of n.id prios) } ∷ pairs_meant prios ds
+pairs_meant prios (procedure f ∷ ds) = pairs_meant prios ds
 
 -- a main is a routine without priority variables, constraints and parameters
-abbrev pub main_meant : RawRoutine → (ℕ → ℕ) → Routine
-main_meant m prio = record { at = m.at; declares = record { vars = 0; given = []; params = []; own = Const (prio m.own.id); gives = type_meant m.result.ty }; body = code_meant m.body prio [] }
+abbrev pub main_meant : Env → RawRoutine → Routine
+main_meant env m = record { at = m.at; declares = record { vars = 0; given = []; params = []; own = prio_of env m.own.id; gives = type_meant env m.result.ty }; body = code_meant m.body env [] }
 
--- a program, by the spellings of the distinct names of its text and by the numbers of the priorities' names
-abbrev pub program_meant : RawTree → List (List ℕ) → (ℕ → ℕ) → Tree
-program_meant p names prio = record {
-  names = map (λ id. get_or names id []) (priorities p.decls);
-  declared = pairs_meant p.decls prio;
-  procs = [];
-  mains = main_meant p.main prio ∷ [];
-}
-
--- a priority's number is its place among the declared ones
-abbrev pub number_of : List RawDecl → ℕ → ℕ
-number_of ds id = place_of id (priorities ds)
-
--- what a program means
+-- what a program means, by the spellings of the distinct names of its text
 abbrev pub resolved : List (List ℕ) → RawTree → Tree
-resolved names p = program_meant p names (number_of p.decls)
+resolved names p = record {
+  names = map (λ id. get_or names id []) (priorities p.decls);
+  declared = pairs_meant (priorities p.decls) p.decls;
+  procs = procs_meant (env_of p.decls) p.decls;
+  mains = main_meant (env_of p.decls) p.main ∷ [];
+}

@@ -1,19 +1,23 @@
 //! Blocks with their names resolved.
 
-ghost use Rattle.std.specs.Prelude.{◌≡◌, ◌≤◌, ◌++◌, ◌∷◌, [], ℕ, Bool, length, IfOk, OnOk};
-ghost use Rattle.priml_syntax.specs.Read.{read_code, read_act, read_tail};
+ghost use Rattle.std.specs.Prelude.{◌≡◌, ◌≤◌, ◌++◌, ◌∷◌, [], length, map, IfOk, OnOk};
 ghost use Rattle.priml_syntax.specs.Tree as tree;
-ghost use Rattle.source_grammar.specs.RawRead.{read_block, read_action};
-ghost use Rattle.source_reader.specs.Faults.{code_faults, body_faults, act_faults, room_faults};
-ghost use Rattle.source_reader.specs.Resolved.{code_meant, body_meant, act_meant};
-ghost use Rattle.source_reader.specs.Fits.{CodeFits, BodyFits, ActFits};
-ghost use Rattle.source_reader.specs.Gives.{Gives, declared_in, number_in};
+ghost use Rattle.priml_syntax.specs.Read.{read_code, read_act, read_tail};
+ghost use Rattle.source_grammar.specs.RawRead.{read_block, read_action, read_expr};
 ghost use Rattle.source_grammar.specs.RawRead.{read_tail as read_raw_tail};
+ghost use Rattle.source_reader.specs.Names.{place_of};
+ghost use Rattle.source_reader.specs.Faults.{proc_faults, prios_faults, terms_faults, scope_faults, code_faults, body_faults, act_faults};
+ghost use Rattle.source_reader.specs.Resolved.{prios_meant, terms_meant, code_meant, body_meant, act_meant};
+ghost use Rattle.source_reader.specs.Fits.{TermsFit, CodeFits, BodyFits, ActFits};
+ghost use Rattle.source_reader.specs.Gives.{Gives};
+ghost use Rattle.source_reader.specs.Known.{env_in};
 
 use crate::faults::{Fault, ResolveStop, What};
-use crate::scope::{bring, expression, priority, variable};
-use priml_syntax::{Action, Bind, Block, Prio, Tail, TailForm};
-use source_grammar::raw::{RawAction, RawBind, RawBlock, RawTail, RawTailForm};
+use crate::list::{expressions, priorities};
+use crate::names::{Names, bring};
+use crate::term::{expression, priority, procedure, variable};
+use priml_syntax::{Action, Bind, Block, Tail, TailForm};
+use source_grammar::raw::{Name, RawAction, RawBind, RawBlock, RawExpr, RawTail, RawTailForm};
 use std::alloc::{AllocError, Global};
 
 /// The most variables that may be in scope.
@@ -23,19 +27,19 @@ const SCOPE: usize = 32;
 #[cycle(resolve)]
 pub fn block_of(
     alloc: Global,
-    numbers: &[Option<u32>],
+    names: &Names,
     scope: &mut Vec<usize>,
     raw: &RawBlock,
 ) -> Result<Block, ResolveStop>
     requires room { length scope.old.items ≤ 32 }
     requires fits { CodeFits (read_block raw.now) }
-    ensures gives { Gives (code_faults (read_block raw.now) (declared_in numbers.now) scope.old.items) (code_meant (read_block raw.now) (number_in numbers.now) scope.old.items) read_code result }
+    ensures gives { Gives (code_faults (read_block raw.now) (env_in names.now) scope.old.items) (code_meant (read_block raw.now) (env_in names.now) scope.old.items) read_code result }
     ensures scope { OnOk result (scope.new.items ≡ scope.old.items) }
 {
     let outer = scope.len();
     let mut binds = Vec::with_capacity(alloc, raw.binds.len())?;
     for bind in &raw.binds {
-        let action = bound(alloc, numbers, scope, bind)?;
+        let action = bound(alloc, names, scope, bind)?;
         push(
             &mut binds,
             Bind {
@@ -44,22 +48,22 @@ pub fn block_of(
             },
         )?;
     }
-    let tail = ending(scope, &raw.tail)?;
+    let tail = ending(alloc, names, scope, &raw.tail)?;
     scope.truncate(outer);
     Ok(Block::of(raw.at, binds, tail))
 }
 
-/// The bound action; its name is in scope from here on.
+// The bound action; its name is in scope from here on.
 #[cycle(resolve)]
 fn bound(
     alloc: Global,
-    numbers: &[Option<u32>],
+    names: &Names,
     scope: &mut Vec<usize>,
     raw: &RawBind,
 ) -> Result<Action, ResolveStop>
     requires room { length scope.old.items ≤ 32 }
     requires fits { ActFits (read_action raw.now.action) }
-    ensures gives { Gives (room_faults raw.now.name.at (length scope.old.items) 32 What.Scope ++ act_faults (read_action raw.now.action) (declared_in numbers.now) scope.old.items) (act_meant (read_action raw.now.action) (number_in numbers.now) scope.old.items) read_act result }
+    ensures gives { Gives (scope_faults raw.now.name scope.old.items ++ act_faults (read_action raw.now.action) (env_in names.now) scope.old.items) (act_meant (read_action raw.now.action) (env_in names.now) scope.old.items) read_act result }
     ensures scope { OnOk result (scope.new.items ≡ scope.old.items ++ raw.now.name.id ∷ []) }
     ensures room { OnOk result (length scope.new.items ≤ 32) }
 {
@@ -67,53 +71,153 @@ fn bound(
     if scope.len() >= SCOPE {
         return Err(ResolveStop::Fault(Fault::TooMany(name.at, What::Scope)));
     }
-    let action = action_of(alloc, numbers, scope, &raw.action)?;
+    let action = action_of(alloc, names, scope, &raw.action)?;
     bring(scope, name.id)?;
     Ok(action)
 }
 
-/// The action, its names resolved in this scope.
+// The action, its names resolved in this scope.
 #[cycle(resolve)]
 fn action_of(
     alloc: Global,
-    numbers: &[Option<u32>],
+    names: &Names,
     scope: &mut Vec<usize>,
     raw: &RawAction,
 ) -> Result<Action, ResolveStop>
     requires room { length scope.old.items ≤ 32 }
     requires fits { ActFits (read_action raw.now) }
-    ensures gives { Gives (act_faults (read_action raw.now) (declared_in numbers.now) scope.old.items) (act_meant (read_action raw.now) (number_in numbers.now) scope.old.items) read_act result }
+    ensures gives { Gives (act_faults (read_action raw.now) (env_in names.now) scope.old.items) (act_meant (read_action raw.now) (env_in names.now) scope.old.items) read_act result }
     ensures scope { OnOk result (scope.new.items ≡ scope.old.items) }
 {
     match raw {
-        RawAction::Ret(e) => Ok(Action::Ret(expression(scope, e)?)),
+        RawAction::Ret(e) => Ok(Action::Ret(expression(alloc, names, scope, e)?)),
         RawAction::Spawn(own, body) => {
-            let number = priority(numbers, own)?;
-            let body = block_of(alloc, numbers, scope, body)?;
-            Ok(spawn(alloc, Prio::Const(number), body)?)
+            let own = priority(names, own)?;
+            let body = boxed(alloc, names, scope, body)?;
+            Ok(Action::Spawn(own, body))
         }
         RawAction::Sync(thread) => Ok(Action::Sync(variable(scope, thread.at, thread.id)?)),
+        RawAction::Call(called, given, arguments) => {
+            call(alloc, names, scope, called, given, arguments)
+        }
+        RawAction::Do(body) => Ok(Action::Do(boxed(alloc, names, scope, body)?)),
+        RawAction::Input => Ok(Action::Input),
+        RawAction::Output(e) => Ok(Action::Output(expression(alloc, names, scope, e)?)),
     }
 }
 
-fn spawn(alloc: Global, own: Prio, body: Block) -> Result<Action, AllocError>
-    ensures { IfOk result (λ a. read_act a ≡ tree.spawn own (read_code body)) }
-{
-    Ok(Action::Spawn(own, Box::new(alloc, body)?))
-}
-
-/// The ending of a block, its names resolved in this scope.
-fn ending(scope: &[usize], raw: &RawTail) -> Result<Tail, ResolveStop>
-    requires room { length scope.now ≤ 32 }
+// The ending of a block, its names resolved in this scope.
+#[cycle(resolve)]
+fn ending(
+    alloc: Global,
+    names: &Names,
+    scope: &mut Vec<usize>,
+    raw: &RawTail,
+) -> Result<Tail, ResolveStop>
+    requires room { length scope.old.items ≤ 32 }
     requires fits { BodyFits (read_raw_tail raw.now.form raw.now.at) }
-    ensures { (declared : ℕ → Bool) (prio : ℕ → ℕ) → Gives (body_faults (read_raw_tail raw.now.form raw.now.at) declared scope.now) (body_meant (read_raw_tail raw.now.form raw.now.at) prio scope.now) (λ t. read_tail t.form t.at) result }
+    ensures gives { Gives (body_faults (read_raw_tail raw.now.form raw.now.at) (env_in names.now) scope.old.items) (body_meant (read_raw_tail raw.now.form raw.now.at) (env_in names.now) scope.old.items) (λ t. read_tail t.form t.at) result }
+    ensures scope { OnOk result (scope.new.items ≡ scope.old.items) }
 {
-    match &raw.form {
-        RawTailForm::Ret(e) => Ok(Tail {
-            at: raw.at,
-            form: TailForm::Ret(expression(scope, e)?),
-        }),
+    let form = form_of(alloc, names, scope, raw.at, &raw.form)?;
+    Ok(Tail { at: raw.at, form })
+}
+
+// The form of an ending at this offset.
+#[cycle(resolve)]
+fn form_of(
+    alloc: Global,
+    names: &Names,
+    scope: &mut Vec<usize>,
+    at: u64,
+    raw: &RawTailForm,
+) -> Result<TailForm, ResolveStop>
+    requires room { length scope.old.items ≤ 32 }
+    requires fits { BodyFits (read_raw_tail raw.now at) }
+    ensures gives { Gives (body_faults (read_raw_tail raw.now at) (env_in names.now) scope.old.items) (body_meant (read_raw_tail raw.now at) (env_in names.now) scope.old.items) (λ f. read_tail f at) result }
+    ensures scope { OnOk result (scope.new.items ≡ scope.old.items) }
+{
+    match raw {
+        RawTailForm::Ret(e) => Ok(TailForm::Ret(expression(alloc, names, scope, e)?)),
+        RawTailForm::If(e, a, b) => {
+            let e = expression(alloc, names, scope, e)?;
+            let a = boxed(alloc, names, scope, a)?;
+            let b = boxed(alloc, names, scope, b)?;
+            Ok(TailForm::If(e, a, b))
+        }
+        RawTailForm::Case(e, m, a, n, b) => {
+            let e = expression(alloc, names, scope, e)?;
+            let a = branch(alloc, names, scope, m, a)?;
+            let b = branch(alloc, names, scope, n, b)?;
+            Ok(TailForm::Case(e, a, b))
+        }
     }
+}
+
+// A branch of a case, with its variable in scope.
+#[cycle(resolve)]
+fn branch(
+    alloc: Global,
+    names: &Names,
+    scope: &mut Vec<usize>,
+    inside: &Name,
+    raw: &RawBlock,
+) -> Result<Box<Block>, ResolveStop>
+    requires room { length scope.old.items ≤ 32 }
+    requires fits { CodeFits (read_block raw.now) }
+    ensures gives { Gives (scope_faults inside.now scope.old.items ++ code_faults (read_block raw.now) (env_in names.now) (scope.old.items ++ inside.now.id ∷ [])) (code_meant (read_block raw.now) (env_in names.now) (scope.old.items ++ inside.now.id ∷ [])) (λ b. read_code b.value) result }
+    ensures scope { OnOk result (scope.new.items ≡ scope.old.items) }
+{
+    let Name { at, id } = *inside;
+    let outer = scope.len();
+    if outer >= SCOPE {
+        return Err(ResolveStop::Fault(Fault::TooMany(at, What::Scope)));
+    }
+    bring(scope, id)?;
+    let block = boxed(alloc, names, scope, raw)?;
+    scope.truncate(outer);
+    Ok(block)
+}
+
+#[cycle(resolve)]
+fn boxed(
+    alloc: Global,
+    names: &Names,
+    scope: &mut Vec<usize>,
+    raw: &RawBlock,
+) -> Result<Box<Block>, ResolveStop>
+    requires room { length scope.old.items ≤ 32 }
+    requires fits { CodeFits (read_block raw.now) }
+    ensures gives { Gives (code_faults (read_block raw.now) (env_in names.now) scope.old.items) (code_meant (read_block raw.now) (env_in names.now) scope.old.items) (λ b. read_code b.value) result }
+    ensures scope { OnOk result (scope.new.items ≡ scope.old.items) }
+{
+    let block = block_of(alloc, names, scope, raw)?;
+    Ok(box_block(alloc, block)?)
+}
+
+fn box_block(alloc: Global, block: Block) -> Result<Box<Block>, AllocError>
+    ensures { IfOk result (λ b. read_code b.value ≡ read_code block) }
+{
+    Ok(Box::new(alloc, block)?)
+}
+
+// The call of the procedure of this name.
+fn call(
+    alloc: Global,
+    names: &Names,
+    scope: &[usize],
+    called: &Name,
+    given: &[Name],
+    arguments: &[RawExpr],
+) -> Result<Action, ResolveStop>
+    requires room { length scope.now ≤ 32 }
+    requires fits { TermsFit (map read_expr arguments.now) }
+    ensures { Gives (proc_faults (env_in names.now) called.now ++ (prios_faults (env_in names.now) given.now ++ terms_faults (env_in names.now) (map read_expr arguments.now) scope.now)) (tree.call (place_of called.now.id (env_in names.now).procs) (prios_meant (env_in names.now) given.now) (terms_meant (env_in names.now) (map read_expr arguments.now) scope.now)) read_act result }
+{
+    let number = procedure(names, called)?;
+    let given = priorities(alloc, names, given)?;
+    let arguments = expressions(alloc, names, scope, arguments)?;
+    Ok(Action::Call(number, given, arguments))
 }
 
 fn push(binds: &mut Vec<Bind>, bind: Bind) -> Result<(), AllocError>

@@ -1,136 +1,169 @@
 //! The declarations of a program.
 
-ghost use Rattle.std.specs.Prelude.{◌≡◌, ◌++◌, ◌∷◌, [], ℕ, List, length, map, not, is_some, IfOk, OnOk};
-ghost use Rattle.priml_syntax.specs.Read.{read_pair};
-ghost use Rattle.source_reader.specs.Names.{lookup, priorities};
-ghost use Rattle.source_reader.specs.Faults.{decl_faults, decls_faults, unless, room_faults, prio_faults};
-ghost use Rattle.source_reader.specs.Resolved.{pairs_meant};
-ghost use Rattle.source_reader.specs.Fits.{DeclsFit};
-ghost use Rattle.source_reader.specs.Gives.{Finds, HasNumbers, IsNumbering, declared_in, number_in};
+ghost use Rattle.std.specs.Prelude.{◌≡◌, ◌++◌, ◌∷◌, [], length, map, IfOk, OnOk};
+ghost use Rattle.priml_syntax.specs.Read.{read_pair, read_proc};
+ghost use Rattle.source_grammar.specs.RawRead.{read_decl};
+ghost use Rattle.source_reader.specs.declared.faults.What.TheVariants as what;
+ghost use Rattle.source_reader.specs.Names.{place_of, priorities, procedures, env_of};
+ghost use Rattle.source_reader.specs.Faults.{room_faults, prio_faults, decls_faults};
+ghost use Rattle.source_reader.specs.Resolved.{pairs_meant, procs_meant};
+ghost use Rattle.source_reader.specs.Fits.{DeclsFit, BodiesFit};
+ghost use Rattle.source_reader.specs.Parts.{declared_faults};
+ghost use Rattle.source_reader.specs.Gives.{Gives, Finds, plain};
+ghost use Rattle.source_reader.specs.Known.{env_in};
 
 use crate::faults::{Fault, ResolveStop, What};
-use crate::scope::{bring, find, priority};
+use crate::names::{Index, Names};
+use crate::once::once;
+use crate::procedure::procedure_of;
+use priml_syntax::Proc;
 use source_grammar::raw::{Name, RawDecl};
 use std::alloc::{AllocError, Global};
 
 /// The most priorities that may be declared.
 const PRIORITIES: usize = 16;
 
-/// The most pairs that may be declared.
+/// The most pairs that may be declared, and the most procedures.
 const PAIRS: usize = 256;
 
-/// What a program declares: the names of its priorities, and its pairs, each with the offset of its word `order`.
+/// What a program declares so far: the names of its priorities and of its procedures, its pairs, each with the offset of its
+/// word `order`, and its procedures.
 #[derive(Drop)]
 pub struct Declared {
     pub priorities: Vec<usize>,
+    pub called: Vec<usize>,
     pub pairs: Vec<(u64, u32, u32)>,
+    pub procs: Vec<Proc>,
 }
 
-/// The number of each declared priority at its name, where there are so many distinct names. The number is the place
-/// among the declared priorities; 16 stands for all that are too many.
-pub fn numbers_of(
-    alloc: Global,
-    names: usize,
-    decls: &[RawDecl],
-) -> Result<Vec<Option<u32>>, AllocError>
-    requires { DeclsFit names decls.now }
-    ensures { IfOk result (λ t. HasNumbers t.items (priorities decls.now)) }
+/// The names that are declared anywhere in the text, outside procedures, of so many distinct names.
+pub fn names_of(alloc: Global, names: usize, decls: &[RawDecl]) -> Result<Names, AllocError>
+    requires { DeclsFit names (map read_decl decls.now) }
+    ensures { IfOk result (λ n. env_in n ≡ env_of (map read_decl decls.now)) }
 {
-    let mut numbers = vec![in alloc; None; names]?;
-    let mut next = 0;
+    let mut priorities = Index::new(alloc, names)?;
+    let mut procedures = Index::new(alloc, names)?;
     for decl in decls {
-        next = number(&mut numbers, next, decl);
+        know(&mut priorities, &mut procedures, decl)?;
     }
-    Ok(numbers)
+    Ok(Names {
+        priorities,
+        vars: Vec::new(alloc),
+        procedures,
+    })
 }
 
-// Gives a declared priority the next number, and answers the one after it.
-fn number(numbers: &mut Vec<Option<u32>>, next: u32, decl: &RawDecl) -> u32
-    requires { DeclsFit (length numbers.old.items) (decl.now ∷ []) }
-    ensures long { length numbers.new.items ≡ length numbers.old.items }
-    ensures numbered { (names : List ℕ) → IsNumbering numbers.old.items names next → IsNumbering numbers.new.items (names ++ priorities (decl.now ∷ [])) result }
+// Knows the name of one declaration more.
+fn know(known: &mut Index, called: &mut Index, decl: &RawDecl) -> Result<(), AllocError>
+    requires fits { DeclsFit (length known.old.places.items) (read_decl decl.now ∷ []) }
+    requires wide { length called.old.places.items ≡ length known.old.places.items }
+    ensures priorities { OnOk result (known.new.ids.items ≡ known.old.ids.items ++ priorities (read_decl decl.now ∷ [])) }
+    ensures procedures { OnOk result (called.new.ids.items ≡ called.old.ids.items ++ procedures (read_decl decl.now ∷ [])) }
+    ensures wide_known { length known.new.places.items ≡ length known.old.places.items }
+    ensures wide_called { length called.new.places.items ≡ length called.old.places.items }
 {
     match decl {
-        RawDecl::Priority(name) => {
-            numbers[name.id] = Some(next);
-            if next < 16 { next + 1 } else { next }
-        }
-        RawDecl::Order(..) => next,
+        RawDecl::Priority(name) => known.push(name.id),
+        RawDecl::Order(..) => Ok(()),
+        RawDecl::Proc(f) => called.push(f.name.id),
     }
 }
 
-/// The declarations, by the numbers of the declared priorities.
+/// The declarations, where the names outside procedures are known.
 pub fn declare_all(
     alloc: Global,
-    numbers: &[Option<u32>],
+    names: &mut Names,
     decls: &[RawDecl],
 ) -> Result<Declared, ResolveStop>
-    ensures faults { Finds (decls_faults decls.now (declared_in numbers.now) []) result }
-    ensures priorities { IfOk result (λ d. d.priorities.items ≡ priorities decls.now) }
-    ensures pairs { IfOk result (λ d. map read_pair d.pairs.items ≡ pairs_meant decls.now (number_in numbers.now)) }
+    requires none { names.old.vars.items ≡ [] }
+    requires fits { BodiesFit (map read_decl decls.now) }
+    ensures faults { Finds (decls_faults (env_in names.old) (map read_decl decls.now) []) result }
+    ensures names { OnOk result (env_in names.new ≡ env_in names.old) }
+    ensures priorities { IfOk result (λ d. d.priorities.items ≡ priorities (map read_decl decls.now)) }
+    ensures pairs { IfOk result (λ d. map read_pair d.pairs.items ≡ pairs_meant (env_in names.old).prios (map read_decl decls.now)) }
+    ensures procs { IfOk result (λ d. map read_proc d.procs.items ≡ procs_meant (env_in names.old) (map read_decl decls.now)) }
 {
-    let mut priorities = Vec::new(alloc);
-    let mut pairs = Vec::new(alloc);
+    let mut all = Declared {
+        priorities: Vec::new(alloc),
+        called: Vec::new(alloc),
+        pairs: Vec::new(alloc),
+        procs: Vec::new(alloc),
+    };
     for decl in decls {
-        declare(numbers, &mut priorities, &mut pairs, decl)?;
+        declare(alloc, names, &mut all, decl)?;
     }
-    Ok(Declared { priorities, pairs })
+    Ok(all)
 }
 
 // One more declaration.
 fn declare(
-    numbers: &[Option<u32>],
-    names: &mut Vec<usize>,
-    pairs: &mut Vec<(u64, u32, u32)>,
+    alloc: Global,
+    names: &mut Names,
+    all: &mut Declared,
     decl: &RawDecl,
 ) -> Result<(), ResolveStop>
-    ensures faults { Finds (decl_faults decl.now (declared_in numbers.now) names.old.items (length pairs.old.items)) result }
-    ensures names { OnOk result (names.new.items ≡ names.old.items ++ priorities (decl.now ∷ [])) }
-    ensures pairs { OnOk result (map read_pair pairs.new.items ≡ map read_pair pairs.old.items ++ pairs_meant (decl.now ∷ []) (number_in numbers.now)) }
+    requires none { names.old.vars.items ≡ [] }
+    requires fits { BodiesFit (read_decl decl.now ∷ []) }
+    ensures faults { Finds (declared_faults (env_in names.old) (read_decl decl.now) all.old.priorities.items (length all.old.pairs.items) all.old.called.items) result }
+    ensures names { OnOk result (env_in names.new ≡ env_in names.old) }
+    ensures priorities { OnOk result (all.new.priorities.items ≡ all.old.priorities.items ++ priorities (read_decl decl.now ∷ [])) }
+    ensures called { OnOk result (all.new.called.items ≡ all.old.called.items ++ procedures (read_decl decl.now ∷ [])) }
+    ensures pairs { OnOk result (map read_pair all.new.pairs.items ≡ map read_pair all.old.pairs.items ++ pairs_meant (env_in names.old).prios (read_decl decl.now ∷ [])) }
+    ensures procs { OnOk result (map read_proc all.new.procs.items ≡ map read_proc all.old.procs.items ++ procs_meant (env_in names.old) (read_decl decl.now ∷ [])) }
 {
     match decl {
-        RawDecl::Priority(name) => declare_priority(names, name),
-        RawDecl::Order(at, low, high) => declare_pair(numbers, pairs, *at, low, high),
+        RawDecl::Priority(name) => once(&mut all.priorities, name, PRIORITIES, What::Priorities),
+        RawDecl::Order(at, low, high) => pair(names, &mut all.pairs, *at, low, high),
+        RawDecl::Proc(f) => {
+            once(&mut all.called, &f.name, PAIRS, What::Procedures)?;
+            let proc = procedure_of(alloc, names, f)?;
+            Ok(push_proc(&mut all.procs, proc)?)
+        }
     }
 }
 
-fn declare_priority(declared: &mut Vec<usize>, name: &Name) -> Result<(), ResolveStop>
-    ensures faults { Finds (unless (not (is_some (lookup name.now.id declared.old.items))) (Fault.TwiceNamed name.now.at) ++ room_faults name.now.at (length declared.old.items) 16 What.Priorities) result }
-    ensures names { OnOk result (declared.new.items ≡ declared.old.items ++ name.now.id ∷ []) }
-{
-    let Name { at, id } = *name;
-    if find(declared, id).is_some() {
-        return Err(ResolveStop::Fault(Fault::TwiceNamed(at)));
-    }
-    if declared.len() >= PRIORITIES {
-        return Err(ResolveStop::Fault(Fault::TooMany(at, What::Priorities)));
-    }
-    bring(declared, id)?;
-    Ok(())
-}
-
-fn declare_pair(
-    numbers: &[Option<u32>],
+// One pair more.
+fn pair(
+    names: &Names,
     pairs: &mut Vec<(u64, u32, u32)>,
     at: u64,
     low: &Name,
     high: &Name,
 ) -> Result<(), ResolveStop>
-    ensures faults { Finds (room_faults at (length pairs.old.items) 256 What.Pairs ++ (prio_faults (declared_in numbers.now) low.now ++ prio_faults (declared_in numbers.now) high.now)) result }
-    ensures pairs { OnOk result (pairs.new.items ≡ pairs.old.items ++ (at, number_in numbers.now low.now.id, number_in numbers.now high.now.id) ∷ []) }
+    requires none { names.now.vars.items ≡ [] }
+    ensures faults { Finds (room_faults at (length pairs.old.items) 256 what.Pairs ++ (prio_faults (env_in names.now) low.now ++ prio_faults (env_in names.now) high.now)) result }
+    ensures pairs { OnOk result (pairs.new.items ≡ pairs.old.items ++ (at, place_of low.now.id (env_in names.now).prios, place_of high.now.id (env_in names.now).prios) ∷ []) }
 {
     if pairs.len() >= PAIRS {
         return Err(ResolveStop::Fault(Fault::TooMany(at, What::Pairs)));
     }
-    let low = priority(numbers, low)?;
-    let high = priority(numbers, high)?;
-    push(pairs, (at, low, high))?;
+    let low = known(names, low)?;
+    let high = known(names, high)?;
+    push_pair(pairs, (at, low, high))?;
     Ok(())
 }
 
-fn push(pairs: &mut Vec<(u64, u32, u32)>, pair: (u64, u32, u32)) -> Result<(), AllocError>
-    ensures { OnOk result (pairs.new.items ≡ pairs.old.items ++ pair ∷ []) }
+// The number of a declared priority, outside procedures.
+fn known(names: &Names, name: &Name) -> Result<u32, ResolveStop>
+    requires none { names.now.vars.items ≡ [] }
+    ensures { Gives (prio_faults (env_in names.now) name.now) (place_of name.now.id (env_in names.now).prios) plain result }
 {
-    pairs.push(pair)?;
+    match names.priorities.get(name.id) {
+        Some(number) => Ok(number),
+        None => Err(ResolveStop::Fault(Fault::UnknownName(name.at))),
+    }
+}
+
+fn push_pair(pairs: &mut Vec<(u64, u32, u32)>, one: (u64, u32, u32)) -> Result<(), AllocError>
+    ensures { OnOk result (pairs.new.items ≡ pairs.old.items ++ one ∷ []) }
+{
+    pairs.push(one)?;
+    Ok(())
+}
+
+fn push_proc(procs: &mut Vec<Proc>, one: Proc) -> Result<(), AllocError>
+    ensures { OnOk result (procs.new.items ≡ procs.old.items ++ one ∷ []) }
+{
+    procs.push(one)?;
     Ok(())
 }

@@ -4,9 +4,13 @@
 mod block;
 mod declared;
 mod faults;
+mod list;
+mod names;
+mod once;
+mod procedure;
 mod reader;
 mod resolve;
-mod scope;
+mod term;
 
 pub use faults::{Fault, What};
 pub use reader::{SourceFault, read_source};

@@ -1,36 +1,52 @@
 //! Reads the text of a program.
 
-ghost use Rattle.std.specs.Prelude.{◌≡◌, ◌≢◌, [], IsAscii, IfOk, IfErr};
+ghost use Rattle.std.specs.Prelude.{◌≡◌, ◌≢◌, [], ℕ, List, IsAscii, IfOk, IfErr};
 ghost use Rattle.std.specs.List.{All};
 ghost use Rattle.indexmap.specs.IndexSet.{index_set_len};
 ghost use Rattle.priml_syntax.specs.Tree.{Tree};
 ghost use Rattle.priml_syntax.specs.Read.{read_program};
 ghost use Rattle.priml_syntax.specs.Scoped.{IsScoped};
+ghost use Rattle.source_tokens.specs.Lexes.{IsLexed};
 ghost use Rattle.source_tokens.specs.Names.{name_bytes};
+ghost use Rattle.source_grammar.specs.Faults.{IsUnexpected};
 ghost use Rattle.source_grammar.specs.Grammar.{IsProgram};
 ghost use Rattle.source_grammar.specs.RawRead.{read_raw};
 ghost use Rattle.source_grammar.specs.RawTree.{RawTree};
 ghost use Rattle.source_reader.specs.Faults.{faults};
 ghost use Rattle.source_reader.specs.Resolved.{resolved};
 ghost use Rattle.source_reader.specs.Fits.{Fits};
-ghost use Rattle.source_reader.specs.Stands.{Stands, Refuses};
+ghost use Rattle.source_reader.specs.Stands.{Stands, Refuses, as_source};
+ghost use Rattle.source_reader.specs.Written.{IsWrittenAs, IsFirstOf, stop_fault};
 
-use crate::faults::ResolveStop;
+use crate::faults::{Fault, ResolveStop, What};
 use crate::resolve::resolve;
 use indexmap::IndexSet;
 use priml_syntax::Program;
 use source_grammar::raw::RawProgram;
 use source_grammar::{ParseStop, parse};
-use source_tokens::lexer::lex;
+use source_tokens::lexer::{Lexed, lex};
 use source_tokens::token::{Stop, Token};
 use std::alloc::{AllocError, Global};
 
-/// Why a text gives no program.
+/// Why a text gives no program. Each but the last has the offset of a byte. The tokens of the whole text are looked at first, and of their faults the
+/// earliest place decides; only where they are those of a program, names and limits are. At one place the smaller number of the kind decides.
 #[derive(Clone, Copy, Debug, PartialEq, Eq)]
 pub enum SourceFault {
-    /// The text stands for no program.
-    NotBuilt,
-    /// The program does not fit in memory.
+    /// 1: the byte begins no token and is no separator.
+    BadByte(u64),
+    /// 2: the number is two to the 63 or more.
+    BadNumber(u64),
+    /// 3: with the token here the text leaves the grammar; or the text ends here before the program does.
+    Unexpected(u64),
+    /// 4: the name stands for nothing in scope.
+    UnknownName(u64),
+    /// 5: the name is declared a second time.
+    TwiceNamed(u64),
+    /// 6: the bracket opens while 64 are open.
+    TooDeep(u64),
+    /// 7: what stands here is one too many of its kind.
+    TooMany(u64, What),
+    /// 8: the program does not fit in memory.
     OutOfMemory,
 }
 
@@ -44,31 +60,84 @@ impl From<AllocError> for SourceFault {
     }
 }
 
-/// The program that a text stands for; it is the only one.
+/// The program that a text stands for; it is the only one. Where it stands for none, its fault.
 pub fn read_source(alloc: Global, text: &[u8]) -> Result<Program, SourceFault>
     ensures program { IfOk result (λ p. Stands text.now (read_program p)) }
     ensures scoped { IfOk result (λ p. IsScoped (read_program p)) }
     ensures only { IfOk result (λ p. (q : Tree) → Stands text.now q → q ≡ read_program p) }
-    ensures none { IfErr result (Refuses text.now) }
+    ensures refused { IfErr result (Refuses text.now) }
 {
-    let lexed = lex(alloc, text)?;
-    if lexed.stop != Stop::Done {
-        return Err(SourceFault::NotBuilt);
-    }
-    let raw = tree(alloc, &lexed.tokens)?;
-    program(alloc, &lexed.names, &raw)
+    let written = tree(alloc, text)?;
+    program(alloc, &written.names, &written.raw)
 }
 
-// The tree of these tokens.
-fn tree(alloc: Global, tokens: &[Token]) -> Result<RawProgram, SourceFault>
-    ensures program { IfOk result (λ p. IsProgram tokens.now (read_raw p)) }
-    ensures only { IfOk result (λ p. (q : RawTree) → IsProgram tokens.now q → q ≡ read_raw p) }
-    ensures none { IfErr result (λ e. e ≡ SourceFault.NotBuilt → (q : RawTree) → IsProgram tokens.now q → ⊥) }
+// A text as a tree over its distinct names. Its tokens are gone.
+#[derive(Drop)]
+struct Written {
+    names: IndexSet<Vec<u8>>,
+    raw: RawProgram,
+}
+
+// The tree that the text is written as.
+fn tree(alloc: Global, text: &[u8]) -> Result<Written, SourceFault>
+    ensures written { IfOk result (λ w. IsWrittenAs text.now (name_bytes w.names) (read_raw w.raw)) }
+    ensures only { IfOk result (λ w. (ns : List (List ℕ)) (q : RawTree) → IsWrittenAs text.now ns q → (ns ≡ name_bytes w.names) × (q ≡ read_raw w.raw)) }
+    ensures refused { IfErr result (Refuses text.now) }
+{
+    let Lexed {
+        tokens,
+        names,
+        stop,
+    } = lex(alloc, text)?;
+    let raw = whole(alloc, text, &tokens, stop)?;
+    Ok(Written { names, raw })
+}
+
+// The tree of these tokens, if they are those of the whole text.
+fn whole(
+    alloc: Global,
+    text: &[u8],
+    tokens: &[Token],
+    stop: Stop,
+) -> Result<RawProgram, SourceFault>
+    ensures derived { IfOk result (λ raw. IsProgram tokens.now (read_raw raw)) }
+    ensures only { IfOk result (λ raw. (q : RawTree) → IsProgram tokens.now q → q ≡ read_raw raw) }
+    ensures done { IfOk result (λ raw. stop ≡ Stop.Done) }
+    ensures refused { IfErr result (λ e. (ns : List (List ℕ)) → IsLexed text.now tokens.now ns stop → Refuses text.now e) }
 {
     match parse(alloc, tokens) {
-        Ok(raw) => Ok(raw),
-        Err(ParseStop::Unexpected(_)) => Err(SourceFault::NotBuilt),
+        Ok(raw) => match fault_of(stop) {
+            None => Ok(raw),
+            Some(fault) => Err(fault),
+        },
+        Err(ParseStop::Unexpected(n)) => Err(unexpected(text, tokens, stop, n)),
         Err(ParseStop::OutOfMemory) => Err(SourceFault::OutOfMemory),
+    }
+}
+
+// The fault where token `n` is unexpected, or the end, where that is the number of tokens.
+fn unexpected(text: &[u8], tokens: &[Token], stop: Stop, n: usize) -> SourceFault
+    requires { IsUnexpected tokens.now n }
+    ensures { (ns : List (List ℕ)) → IsLexed text.now tokens.now ns stop → Refuses text.now result }
+{
+    if n < tokens.len() {
+        return SourceFault::Unexpected(tokens[n].at);
+    }
+    match fault_of(stop) {
+        Some(fault) => fault,
+        None => SourceFault::Unexpected(text.len() as u64),
+    }
+}
+
+// The fault at which a text stops before its end.
+fn fault_of(stop: Stop) -> Option<SourceFault>
+    ensures { result ≡ stop_fault stop }
+{
+    match stop {
+        Stop::Done => None,
+        Stop::BadByte(at) => Some(SourceFault::BadByte(at)),
+        Stop::BadNumber(at) => Some(SourceFault::BadNumber(at)),
+        Stop::TooDeep(at) => Some(SourceFault::TooDeep(at)),
     }
 }
 
@@ -82,11 +151,22 @@ fn program(
     requires ascii { All IsAscii (name_bytes names.now) }
     ensures clean { IfOk result (λ p. faults (read_raw raw.now) ≡ []) }
     ensures meant { IfOk result (λ p. resolved (name_bytes names.now) (read_raw raw.now) ≡ read_program p) }
-    ensures none { IfErr result (λ e. e ≡ SourceFault.NotBuilt → faults (read_raw raw.now) ≢ []) }
+    ensures refused { IfErr result (λ e. e ≢ SourceFault.OutOfMemory → IsFirstOf (faults (read_raw raw.now)) e) }
 {
     match resolve(alloc, names, raw) {
         Ok(program) => Ok(program),
-        Err(ResolveStop::Fault(_)) => Err(SourceFault::NotBuilt),
+        Err(ResolveStop::Fault(fault)) => Err(in_text(fault)),
         Err(ResolveStop::OutOfMemory) => Err(SourceFault::OutOfMemory),
+    }
+}
+
+// A fault of names and limits as one of the text.
+fn in_text(fault: Fault) -> SourceFault
+    ensures { result ≡ as_source fault }
+{
+    match fault {
+        Fault::UnknownName(at) => SourceFault::UnknownName(at),
+        Fault::TwiceNamed(at) => SourceFault::TwiceNamed(at),
+        Fault::TooMany(at, what) => SourceFault::TooMany(at, what),
     }
 }

@@ -1,8 +1,8 @@
-use Rattle.priml.proofs.Founded.{replied, too_long}
+use Rattle.priml.proofs.Founded.{another_command, no_command}
 use Rattle.priml.proofs.answer.reply_to.Goals as goal
 
-pub returns-in-Ok-clause-reply : goal.returns-in-Ok-clause-reply
-returns-in-Ok-clause-reply g c = let h = c.in-Ok.ensures.bytes in replied _ _ _ c.on_text.result (c.is_check.ensures.0 c.if-not-is_check.false) h.0 h.1 h.2 (rw c.deref.ensures.value at c.on_text.ensures)
+pub returns-in_default-clause-reply : goal.returns-in_default-clause-reply
+returns-in_default-clause-reply g c = another_command _ c.in-Ok.command _ c.in-Ok.ensures.reads c.in-Ok.ensures.only c.in_default.not-Check c.not_built.ensures
 
-pub returns-in-Err-TooLong-clause-reply : goal.returns-in-Err-TooLong-clause-reply
-returns-in-Err-TooLong-clause-reply g c = let h = rw c.in-Err-TooLong.field-0-is at c.in-Err-TooLong.ensures.bytes in too_long _ _ h.0 (c.is_check.ensures.0 c.if-not-is_check.false) h.1 h.2
+pub returns-in-Err-clause-reply : goal.returns-in-Err-clause-reply
+returns-in-Err-clause-reply g c = no_command _ c.in-Err.fault _ c.in-Err.ensures.reads c.in-Err.ensures.only c.words_refusal.ensures

@@ -1,8 +1,8 @@
 use Rattle.std.proofs.Common.{◌∷◌, sym, refl, ◌∙◌, arith}
 use Rattle.std.proofs.lemmas.Grind.{common_steps}
 use Rattle.source_grammar.specs.Machine.{Binds}
-use Rattle.source_grammar.proofs.Forms.{bind_made, spawn_made, block_made, more_made}
-use Rattle.source_grammar.proofs.Steps.{binds-name, binds-tail}
+use Rattle.source_grammar.proofs.BlockForms.{bind_made, spawn_made, block_made, more_made, branch_made, split_made}
+use Rattle.source_grammar.proofs.BlockSteps.{binds-name, binds-tail}
 use Rattle.source_grammar.proofs.block.+block.Goals as goal
 
 pub spawn-returns-clause-ok : goal.spawn-returns-clause-ok
@@ -28,3 +28,13 @@ binds-returns-clause-moves t c = λ xs. c.binds.invariant.moved xs ∙ binds-tai
 
 pub block-returns-clause-ok : goal.block-returns-clause-ok
 block-returns-clause-ok t c = block_made _ _ _ _ _ _ _ _ c.in_ok-at.ensures.ok c.in_ok-binds.ensures.ok c.in_ok-tail.ensures.ok c.in_ok-expect_sign.ensures.ok refl
+
+pub branch-returns-clause-ok : goal.branch-returns-clause-ok
+branch-returns-clause-ok t c =
+    branch_made _ _ _ _ _ _ _ _ _ _ _ _ _ c.in_ok-at.ensures.ok c.in_ok-test.ensures.ok c.in_ok-yes.ensures.ok c.in_ok-expect_word.ensures.ok c.in_ok-no.ensures.ok c.in_ok-boxed.ensures
+    c.in_ok-boxed-2.ensures
+
+pub split-returns-clause-ok : goal.split-returns-clause-ok
+split-returns-clause-ok t c =
+    split_made _ _ _ _ _ _ _ _ _ _ _ _ _ _ _ _ _ _ _ c.in_ok-at.ensures.ok c.in_ok-sum.ensures.ok c.in_ok-expect_word.ensures.ok c.in_ok-first.ensures.ok c.in_ok-left.ensures.ok
+    c.in_ok-expect_word-2.ensures.ok c.in_ok-second.ensures.ok c.in_ok-right.ensures.ok c.in_ok-boxed.ensures c.in_ok-boxed-2.ensures

@@ -18,8 +18,20 @@ decreases-binds l = 2 * length l.tokens.now + 1
 abbrev pub decreases-block : goal.decreases-block
 decreases-block l = 2 * length l.tokens.now
 
+abbrev pub decreases-branch : goal.decreases-branch
+decreases-branch l = 2 * length l.tokens.now
+
+abbrev pub decreases-run : goal.decreases-run
+decreases-run l = 2 * length l.tokens.now
+
 abbrev pub decreases-spawn : goal.decreases-spawn
 decreases-spawn l = 2 * length l.tokens.now
+
+abbrev pub decreases-split : goal.decreases-split
+decreases-split l = 2 * length l.tokens.now
+
+abbrev pub decreases-tail : goal.decreases-tail
+decreases-tail l = 2 * length l.tokens.now + 1
 
 abbrev pub invariant-binds-binds : goal.invariant-binds-binds
 invariant-binds-binds l = record {

@@ -3,8 +3,9 @@ use Rattle.std.proofs.lemmas.Result.{err_from_is_err_and}
 use Rattle.source_grammar.specs.declared.raw.RawDecl.{RawDecl}
 use Rattle.source_grammar.specs.Grammar.{IsDecls}
 use Rattle.source_grammar.specs.Machine.{Symbol, Program, Main}
-use Rattle.source_grammar.proofs.Forms.{decls_join}
-use Rattle.source_grammar.proofs.Steps.{part_refuses, program-declaration, program-main}
+use Rattle.source_grammar.proofs.HeadForms.{decls_push}
+use Rattle.source_grammar.proofs.HeadSteps.{program-declaration, program-main}
+use Rattle.source_grammar.proofs.Steps.{part_refuses}
 use Rattle.source_grammar.proofs.program.declarations.Goals as goal
 
 pub declarations-init : goal.declarations-init
@@ -18,7 +19,7 @@ returns-in_err-declaration-clause-moves c =
 
 pub declarations-preserved : goal.declarations-preserved
 declarations-preserved c = record {
-  made = rw c.in_ok-push.ensures (decls_join c.declarations.invariant.made c.in_ok-declaration.ensures.ok);
+  made = rw c.in_ok-push.ensures (decls_push _ _ c.declarations.invariant.made c.in_ok-declaration.ensures.ok);
   moved = λ xs. c.declarations.invariant.moved xs ∙ program-declaration xs _ _ (sym c.declaration_form.ensures ∙ c.in-Some.is) ∙ c.in_ok-declaration.ensures.moves (Program ∷ xs);
 }
 

@@ -1,11 +1,12 @@
-use Rattle.std.proofs.Common.{◌≡◌, ◌∷◌, length, List}
+use Rattle.std.proofs.Common.{◌≡◌, ◌∷◌, length, List, map}
 use Rattle.source_grammar.specs.Grammar.{IsDecls}
+use Rattle.source_grammar.specs.RawRead.{read_decl}
 use Rattle.source_grammar.specs.Machine.{Symbol, halt, Program}
 use Rattle.source_grammar.proofs.program.declarations.Given as goal
 
 abbrev pub invariant-declarations : goal.invariant-declarations
 invariant-declarations l = record {
-  made : IsDecls l.fn.tokens l.tokens l.declarations.items;
+  made : IsDecls l.fn.tokens l.tokens (map read_decl l.declarations.items);
   moved : (xs : List Symbol) → halt (Program ∷ xs) l.fn.tokens ≡ halt (Program ∷ xs) l.tokens;
 }
 

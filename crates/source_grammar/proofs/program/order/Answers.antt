@@ -1,4 +1,4 @@
-use Rattle.source_grammar.proofs.Forms.{order_made}
+use Rattle.source_grammar.proofs.HeadForms.{order_made}
 use Rattle.source_grammar.proofs.program.order.Goals as goal
 
 pub returns-clause-ok : goal.returns-clause-ok

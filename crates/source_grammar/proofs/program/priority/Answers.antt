@@ -1,4 +1,4 @@
-use Rattle.source_grammar.proofs.Forms.{priority_made}
+use Rattle.source_grammar.proofs.HeadForms.{priority_made}
 use Rattle.source_grammar.proofs.program.priority.Goals as goal
 
 pub returns-clause-ok : goal.returns-clause-ok

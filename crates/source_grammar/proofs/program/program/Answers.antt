@@ -1,4 +1,4 @@
-use Rattle.source_grammar.proofs.Forms.{program_made}
+use Rattle.source_grammar.proofs.HeadForms.{program_made}
 use Rattle.source_grammar.proofs.program.program.Goals as goal
 
 pub returns-clause-ok : goal.returns-clause-ok

@@ -1,40 +1,46 @@
-use Rattle.std.proofs.Common.{◌≡◌, length, rules, subst}
+use Rattle.std.proofs.Common.{◌≡◌, length, subst}
 use Rattle.std.proofs.lemmas.List.{length-map}
 use Rattle.indexmap.specs.IndexSet.{index_set_len}
 use Rattle.source_tokens.specs.declared.token.Stop.TheVariants.{Done}
-use Rattle.source_tokens.specs.Lexes.{IsLexed}
-use Rattle.source_tokens.specs.Names.{name_bytes, spellings}
-use Rattle.source_grammar.specs.Grammar.{IsProgram}
+use Rattle.source_tokens.specs.Names.{name_bytes}
+use Rattle.source_tokens.proofs.Lawful.{lexed_lawful}
 use Rattle.source_grammar.specs.RawRead.{read_raw}
 use Rattle.source_reader.specs.Fits.{Fits}
 use Rattle.source_reader.proofs.Fitting.{lexed_fits, lexed_ascii, program_fits}
-use Rattle.source_reader.proofs.Standing.{stands_if, scoped_if}
+use Rattle.source_reader.proofs.InOrder.{faults_ascend}
+use Rattle.source_reader.proofs.Standing.{scoped_if, only_if, refused_if}
 use Rattle.source_reader.proofs.reader.read_source.Goals as goal
 
 pub program-requires-clause-fits : goal.program-requires-clause-fits
 program-requires-clause-fits c =
-    let l = c.in_ok-lexed.lexed in
-    let raw = read_raw c.in_ok-raw.raw in
-    let fit = lexed_fits c.args.text.now l.tokens.items (spellings l) l.stop c.in_ok-lexed.ensures.cut in
-    let long : length (name_bytes l.names) ≡ index_set_len l.names = length-map l.names.keys (λ v. v.items) in
-    let derived = subst (λ ts. IsProgram ts raw) c.deref.ensures.value c.in_ok-raw.ensures.program in
-    subst (λ n. Fits n raw) long (program_fits (length (spellings l)) derived fit)
+    let w = c.in_ok-written.written in
+    let names = name_bytes w.names in
+    let is = c.in_ok-written.ensures.written in
+    let fit = lexed_fits c.args.text.now is.tokens names Done is.lexed in
+    let long : length names ≡ index_set_len w.names = length-map w.names.keys (λ v. v.items) in
+    subst (λ n. Fits n (read_raw w.raw)) long (program_fits (length names) is.derived fit)
 
 pub program-requires-clause-ascii : goal.program-requires-clause-ascii
 program-requires-clause-ascii c =
-    let l = c.in_ok-lexed.lexed in
-    lexed_ascii c.args.text.now l.tokens.items (spellings l) l.stop c.in_ok-lexed.ensures.cut
-
-pub returns-clause-program : goal.returns-clause-program
-returns-clause-program c =
-    let l = c.in_ok-lexed.lexed in
-    let raw = read_raw c.in_ok-raw.raw in
-    let done : l.stop ≡ Done = search rules in
-    let lexed = subst (IsLexed c.args.text.now l.tokens.items (spellings l)) done c.in_ok-lexed.ensures.cut in
-    let derived = subst (λ ts. IsProgram ts raw) c.deref.ensures.value c.in_ok-raw.ensures.program in
-    stands_if c.args.text.now l.tokens.items (spellings l) raw c.program.result lexed derived c.program.ensures.clean c.program.ensures.meant
+    let is = c.in_ok-written.ensures.written in
+    lexed_ascii c.args.text.now is.tokens (name_bytes c.in_ok-written.written.names) Done is.lexed
 
 pub returns-clause-scoped : goal.returns-clause-scoped
 returns-clause-scoped c =
-    let l = c.in_ok-lexed.lexed in
-    scoped_if (spellings l) (read_raw c.in_ok-raw.raw) c.program.result c.program.ensures.clean c.program.ensures.meant
+    let w = c.in_ok-written.written in
+    scoped_if (name_bytes w.names) (read_raw w.raw) c.program.result c.program.ensures.clean c.program.ensures.meant
+
+pub returns-clause-only : goal.returns-clause-only
+returns-clause-only c =
+    let w = c.in_ok-written.written in
+    only_if c.args.text.now (name_bytes w.names) (read_raw w.raw) c.program.result c.in_ok-written.ensures.only c.program.ensures.meant
+
+pub returns-clause-refused : goal.returns-clause-refused
+returns-clause-refused c =
+    let w = c.in_ok-written.written in
+    let text = c.args.text.now in
+    let raw = read_raw w.raw in
+    let names = name_bytes w.names in
+    let is = c.in_ok-written.ensures.written in
+    let up = faults_ascend is.tokens raw (length text) is.derived (lexed_lawful text is.tokens names Done is.lexed).in_order in
+    refused_if text names raw c.program.result is c.in_ok-written.ensures.only up c.program.ensures.refused

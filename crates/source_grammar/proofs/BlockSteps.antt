@@ -1,0 +1,157 @@
+-- What one token does to the symbols of blocks and actions.
+use Rattle.std.proofs.Common.{List, [], ◌∷◌, ◌≡◌, Some, None, true, false, cond, refl, sym, ap, ◌∙◌}
+use Rattle.source_tokens.specs.declared.token.Token.{Token}
+use Rattle.source_tokens.specs.declared.token.Kind.{Kind}
+use Rattle.source_tokens.specs.declared.token.Word.TheVariants as w
+use Rattle.source_tokens.specs.declared.token.Sign.TheVariants as s
+use Rattle.source_grammar.specs.declared.choice.ActionForm.{ActionForm}
+use Rattle.source_grammar.specs.declared.choice.ActionForm.TheVariants as action
+use Rattle.source_grammar.specs.declared.choice.TailForm.{TailForm}
+use Rattle.source_grammar.specs.declared.choice.TailForm.TheVariants as tail
+use Rattle.source_grammar.specs.Next.{is_at, form_at, is_name, is_sign, action_form, tail_form}
+use Rattle.source_grammar.specs.Machine.{Symbol, parens, brackets, rule, halt, and_then, by_form, rule_action_form, rule_tail_form, rule_bind, rule_tail, rule_call_priorities, AName, AWord, ASign, AtEnd, Listed, Expr, Block, Binds, Bind, Tail, Give, Branch, Split, Action, Returned, Spawn, Sync, Call, Run, Input, Output, CallOpen, CallPriorities}
+use Rattle.source_grammar.proofs.Steps.{begins, begins_here, halt-end, same, same_here, tested, nothing_chosen}
+
+-- Straight lines.
+pub halt-block : (xs : List Symbol) (ts : List Token) → halt (Block ∷ xs) ts ≡ halt (ASign s.OpenBrace ∷ Binds ∷ xs) ts
+halt-block xs ts = begins _ _ (Binds ∷ []) xs ts (λ kind. refl)
+
+pub halt-bind : (xs : List Symbol) (ts : List Token) → halt (Bind ∷ xs) ts ≡ halt (AName ∷ ASign s.Arrow ∷ Action ∷ ASign s.Semicolon ∷ xs) ts
+halt-bind xs ts = begins _ _ (ASign s.Arrow ∷ Action ∷ ASign s.Semicolon ∷ []) xs ts (λ kind. refl)
+
+pub halt-give : (xs : List Symbol) (ts : List Token) → halt (Give ∷ xs) ts ≡ halt (AWord w.Ret ∷ Expr ∷ xs) ts
+halt-give xs ts = begins _ _ (Expr ∷ []) xs ts (λ kind. refl)
+
+pub halt-branch : (xs : List Symbol) (ts : List Token) → halt (Branch ∷ xs) ts ≡ halt (AWord w.If ∷ Expr ∷ Block ∷ AWord w.Else ∷ Block ∷ xs) ts
+halt-branch xs ts = begins _ _ (Expr ∷ Block ∷ AWord w.Else ∷ Block ∷ []) xs ts (λ kind. refl)
+
+pub halt-split : (xs : List Symbol) (ts : List Token) → halt (Split ∷ xs) ts ≡ halt (AWord w.Case ∷ Expr ∷ AWord w.Inl ∷ AName ∷ Block ∷ AWord w.Inr ∷ AName ∷ Block ∷ xs) ts
+halt-split xs ts = begins _ _ (Expr ∷ AWord w.Inl ∷ AName ∷ Block ∷ AWord w.Inr ∷ AName ∷ Block ∷ []) xs ts (λ kind. refl)
+
+pub halt-returned : (xs : List Symbol) (ts : List Token) → halt (Returned ∷ xs) ts ≡ halt (AWord w.Ret ∷ Expr ∷ xs) ts
+halt-returned xs ts = begins _ _ (Expr ∷ []) xs ts (λ kind. refl)
+
+pub halt-spawn : (xs : List Symbol) (ts : List Token) → halt (Spawn ∷ xs) ts ≡ halt (AWord w.Spawn ∷ ASign s.OpenBracket ∷ AName ∷ ASign s.CloseBracket ∷ Block ∷ xs) ts
+halt-spawn xs ts = begins _ _ (ASign s.OpenBracket ∷ AName ∷ ASign s.CloseBracket ∷ Block ∷ []) xs ts (λ kind. refl)
+
+pub halt-sync : (xs : List Symbol) (ts : List Token) → halt (Sync ∷ xs) ts ≡ halt (AWord w.Sync ∷ AName ∷ xs) ts
+halt-sync xs ts = begins _ _ (AName ∷ []) xs ts (λ kind. refl)
+
+pub halt-call : (xs : List Symbol) (ts : List Token) → halt (Call ∷ xs) ts ≡ halt (AWord w.Call ∷ AName ∷ CallOpen ∷ Listed Expr parens ∷ xs) ts
+halt-call xs ts = begins _ _ (AName ∷ CallOpen ∷ Listed Expr parens ∷ []) xs ts (λ kind. refl)
+
+pub halt-run : (xs : List Symbol) (ts : List Token) → halt (Run ∷ xs) ts ≡ halt (AWord w.Do ∷ Block ∷ xs) ts
+halt-run xs ts = begins _ _ (Block ∷ []) xs ts (λ kind. refl)
+
+pub halt-output : (xs : List Symbol) (ts : List Token) → halt (Output ∷ xs) ts ≡ halt (AWord w.Output ∷ Expr ∷ xs) ts
+halt-output xs ts = begins _ _ (Expr ∷ []) xs ts (λ kind. refl)
+
+pub halt-call_priorities : (xs : List Symbol) (ts : List Token) → halt (CallPriorities ∷ xs) ts ≡ halt (ASign s.OpenBracket ∷ Listed AName brackets ∷ ASign s.OpenParen ∷ xs) ts
+halt-call_priorities xs ts = begins _ _ (Listed AName brackets ∷ ASign s.OpenParen ∷ []) xs ts (λ kind. refl)
+
+-- One symbol for another.
+pub halt-input : (xs : List Symbol) (ts : List Token) → halt (Input ∷ xs) ts ≡ halt (AWord w.Input ∷ xs) ts
+halt-input xs ts = same _ _ xs ts (λ kind. refl)
+
+pub end-parens : (xs : List Symbol) (ts : List Token) → halt (AtEnd parens ∷ xs) ts ≡ halt (ASign s.CloseParen ∷ xs) ts
+end-parens xs ts = same _ _ xs ts (λ kind. refl)
+
+pub end-brackets : (xs : List Symbol) (ts : List Token) → halt (AtEnd brackets ∷ xs) ts ≡ halt (ASign s.CloseBracket ∷ xs) ts
+end-brackets xs ts = same _ _ xs ts (λ kind. refl)
+
+-- The next token chooses an action.
+abbrev action_symbol : ActionForm → Symbol
+action_symbol action.Returned = Returned
+action_symbol action.Spawn = Spawn
+action_symbol action.Sync = Sync
+action_symbol action.Call = Call
+action_symbol action.Run = Run
+action_symbol action.Input = Input
+action_symbol action.Output = Output
+
+action_line : (f : ActionForm) (kind : Kind) → rule_action_form kind f ≡ rule (action_symbol f) kind
+action_line action.Returned kind = refl
+action_line action.Spawn kind = refl
+action_line action.Sync kind = refl
+action_line action.Call kind = refl
+action_line action.Run kind = refl
+action_line action.Input kind = refl
+action_line action.Output kind = refl
+
+action_chosen : (xs : List Symbol) (ts : List Token) (f : ActionForm) → form_at action_form ts ≡ Some f → halt (Action ∷ xs) ts ≡ halt (action_symbol f ∷ xs) ts
+action_chosen xs [] f h = cc
+action_chosen xs (t ∷ ts) f h = same_here Action (action_symbol f) xs t ts (ap (λ o. by_form o (rule_action_form t.kind) None) h ∙ action_line f t.kind)
+
+pub action-returned : (xs : List Symbol) (ts : List Token) → form_at action_form ts ≡ Some action.Returned → halt (Action ∷ xs) ts ≡ halt (Returned ∷ xs) ts
+action-returned xs ts h = action_chosen xs ts action.Returned h
+
+pub action-spawn : (xs : List Symbol) (ts : List Token) → form_at action_form ts ≡ Some action.Spawn → halt (Action ∷ xs) ts ≡ halt (Spawn ∷ xs) ts
+action-spawn xs ts h = action_chosen xs ts action.Spawn h
+
+pub action-sync : (xs : List Symbol) (ts : List Token) → form_at action_form ts ≡ Some action.Sync → halt (Action ∷ xs) ts ≡ halt (Sync ∷ xs) ts
+action-sync xs ts h = action_chosen xs ts action.Sync h
+
+pub action-call : (xs : List Symbol) (ts : List Token) → form_at action_form ts ≡ Some action.Call → halt (Action ∷ xs) ts ≡ halt (Call ∷ xs) ts
+action-call xs ts h = action_chosen xs ts action.Call h
+
+pub action-run : (xs : List Symbol) (ts : List Token) → form_at action_form ts ≡ Some action.Run → halt (Action ∷ xs) ts ≡ halt (Run ∷ xs) ts
+action-run xs ts h = action_chosen xs ts action.Run h
+
+pub action-input : (xs : List Symbol) (ts : List Token) → form_at action_form ts ≡ Some action.Input → halt (Action ∷ xs) ts ≡ halt (Input ∷ xs) ts
+action-input xs ts h = action_chosen xs ts action.Input h
+
+pub action-output : (xs : List Symbol) (ts : List Token) → form_at action_form ts ≡ Some action.Output → halt (Action ∷ xs) ts ≡ halt (Output ∷ xs) ts
+action-output xs ts h = action_chosen xs ts action.Output h
+
+pub action-none : (xs : List Symbol) (ts : List Token) → form_at action_form ts ≡ None → halt (Action ∷ xs) ts ≡ Some ts
+action-none xs ts h = nothing_chosen Action action_form rule_action_form xs ts (λ kind. refl) h
+
+-- The next token chooses an ending.
+abbrev tail_symbol : TailForm → Symbol
+tail_symbol tail.Give = Give
+tail_symbol tail.Branch = Branch
+tail_symbol tail.Split = Split
+
+tail_line : (f : TailForm) (kind : Kind) → rule_tail_form kind f ≡ rule (tail_symbol f) kind
+tail_line tail.Give kind = refl
+tail_line tail.Branch kind = refl
+tail_line tail.Split kind = refl
+
+tail_chosen : (xs : List Symbol) (ts : List Token) (f : TailForm) → form_at tail_form ts ≡ Some f → halt (Tail ∷ xs) ts ≡ halt (tail_symbol f ∷ xs) ts
+tail_chosen xs [] f h = cc
+tail_chosen xs (t ∷ ts) f h = same_here Tail (tail_symbol f) xs t ts (ap (λ o. by_form o (rule_tail_form t.kind) None) h ∙ tail_line f t.kind)
+
+pub tail-give : (xs : List Symbol) (ts : List Token) → form_at tail_form ts ≡ Some tail.Give → halt (Tail ∷ xs) ts ≡ halt (Give ∷ xs) ts
+tail-give xs ts h = tail_chosen xs ts tail.Give h
+
+pub tail-branch : (xs : List Symbol) (ts : List Token) → form_at tail_form ts ≡ Some tail.Branch → halt (Tail ∷ xs) ts ≡ halt (Branch ∷ xs) ts
+tail-branch xs ts h = tail_chosen xs ts tail.Branch h
+
+pub tail-split : (xs : List Symbol) (ts : List Token) → form_at tail_form ts ≡ Some tail.Split → halt (Tail ∷ xs) ts ≡ halt (Split ∷ xs) ts
+tail-split xs ts h = tail_chosen xs ts tail.Split h
+
+pub tail-none : (xs : List Symbol) (ts : List Token) → form_at tail_form ts ≡ None → halt (Tail ∷ xs) ts ≡ Some ts
+tail-none xs ts h = nothing_chosen Tail tail_form rule_tail_form xs ts (λ kind. refl) h
+
+-- In a block a name begins a bound action, and anything else is the ending's.
+pub binds-name : (xs : List Symbol) (ts : List Token) → is_at is_name ts ≡ true → halt (Binds ∷ xs) ts ≡ halt (Bind ∷ Binds ∷ xs) ts
+binds-name xs [] h = halt-end _ _ _ _
+binds-name xs (t ∷ ts) h = begins_here Binds Bind (Binds ∷ []) xs t ts
+    (ap (λ b. cond b (and_then (Binds ∷ []) (rule_bind t.kind)) (and_then (ASign s.CloseBrace ∷ []) (rule_tail t.kind))) h)
+
+pub binds-tail : (xs : List Symbol) (ts : List Token) → is_at is_name ts ≡ false → halt (Binds ∷ xs) ts ≡ halt (Tail ∷ ASign s.CloseBrace ∷ xs) ts
+binds-tail xs [] h = halt-end _ _ _ _
+binds-tail xs (t ∷ ts) h = begins_here Binds Tail (ASign s.CloseBrace ∷ []) xs t ts
+    (ap (λ b. cond b (and_then (Binds ∷ []) (rule_bind t.kind)) (and_then (ASign s.CloseBrace ∷ []) (rule_tail t.kind))) h)
+
+-- A call's priorities may be left out.
+pub call-open : (xs : List Symbol) (ts : List Token) → is_at (is_sign s.OpenParen) ts ≡ true → halt (CallOpen ∷ xs) ts ≡ halt (ASign s.OpenParen ∷ xs) ts
+call-open xs ts h = tested CallOpen (ASign s.OpenParen) (is_sign s.OpenParen) true xs ts
+    (λ kind e. ap (λ b. cond b (Some []) (rule_call_priorities kind)) e ∙ sym (ap (λ b. cond b (Some []) None) e)) h
+
+pub call-priorities : (xs : List Symbol) (ts : List Token) → is_at (is_sign s.OpenParen) ts ≡ false → halt (CallOpen ∷ xs) ts ≡ halt (CallPriorities ∷ xs) ts
+call-priorities xs ts h = tested CallOpen CallPriorities (is_sign s.OpenParen) false xs ts (λ kind e. ap (λ b. cond b (Some []) (rule_call_priorities kind)) e) h
+
+pub ruleset steps = (halt-block, halt-bind, halt-give, halt-branch, halt-split, halt-returned, halt-spawn, halt-sync, halt-call, halt-run, halt-output, halt-call_priorities, halt-input, end-parens, end-brackets)
+
+pub ruleset choices = (action-returned, action-spawn, action-sync, action-call, action-run, action-input, action-output, action-none, tail-give, tail-branch, tail-split, tail-none, call-open, call-priorities)

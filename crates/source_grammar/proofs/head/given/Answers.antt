@@ -1,0 +1,12 @@
+use Rattle.std.proofs.Common.{arith}
+use Rattle.std.proofs.lemmas.Grind.{common_steps}
+use Rattle.source_grammar.specs.Machine.{brackets}
+use Rattle.source_grammar.proofs.HeadSteps.{steps}
+use Rattle.source_grammar.proofs.HeadForms.{given_made}
+use Rattle.source_grammar.proofs.head.given.Goals as goal
+
+pub returns-clause-ok : goal.returns-clause-ok
+returns-clause-ok c = given_made _ _ _ _ _ _ _ _ _ c.in_ok-expect_sign.ensures.ok c.in_ok-pairs.ensures.ok c.in_ok-expect_sign-2.ensures.ok c.in_ok-expect_sign-3.ensures.ok
+
+pub returns-in_err-pairs-clause-moves : goal.returns-in_err-pairs-clause-moves
+returns-in_err-pairs-clause-moves c = let m = c.in_err-pairs.ensures.moves brackets in grind (arith, common_steps, steps, m)

@@ -1,0 +1,62 @@
+//! The priorities and the arguments of a call.
+
+ghost use Rattle.std.specs.Prelude.{◌≡◌, ◌≤◌, ◌++◌, ◌∷◌, [], length, map, OnOk};
+ghost use Rattle.priml_syntax.specs.Read.{read_term};
+ghost use Rattle.source_grammar.specs.RawRead.{read_expr};
+ghost use Rattle.source_reader.specs.Faults.{prios_faults, terms_faults};
+ghost use Rattle.source_reader.specs.Resolved.{prios_meant, terms_meant};
+ghost use Rattle.source_reader.specs.Fits.{TermsFit};
+ghost use Rattle.source_reader.specs.Gives.{Gives};
+ghost use Rattle.source_reader.specs.Known.{env_in};
+
+use crate::faults::ResolveStop;
+use crate::names::Names;
+use crate::term::{expression, priority};
+use priml_syntax::{Expr, Prio};
+use source_grammar::raw::{Name, RawExpr};
+use std::alloc::{AllocError, Global};
+
+/// The priorities of these names, in order.
+pub fn priorities(alloc: Global, names: &Names, list: &[Name]) -> Result<Vec<Prio>, ResolveStop>
+    ensures { Gives (prios_faults (env_in names.now) list.now) (prios_meant (env_in names.now) list.now) (λ v. v.items) result }
+{
+    let mut all = Vec::new(alloc);
+    for name in list {
+        let found = priority(names, name)?;
+        push_priority(&mut all, found)?;
+    }
+    Ok(all)
+}
+
+/// The expressions in order, their names resolved in this scope.
+pub fn expressions(
+    alloc: Global,
+    names: &Names,
+    scope: &[usize],
+    list: &[RawExpr],
+) -> Result<Vec<Expr>, ResolveStop>
+    requires room { length scope.now ≤ 32 }
+    requires fits { TermsFit (map read_expr list.now) }
+    ensures { Gives (terms_faults (env_in names.now) (map read_expr list.now) scope.now) (terms_meant (env_in names.now) (map read_expr list.now) scope.now) (λ v. map read_term v.items) result }
+{
+    let mut all = Vec::new(alloc);
+    for raw in list {
+        let e = expression(alloc, names, scope, raw)?;
+        push_expression(&mut all, e)?;
+    }
+    Ok(all)
+}
+
+fn push_priority(all: &mut Vec<Prio>, one: Prio) -> Result<(), AllocError>
+    ensures { OnOk result (all.new.items ≡ all.old.items ++ one ∷ []) }
+{
+    all.push(one)?;
+    Ok(())
+}
+
+fn push_expression(all: &mut Vec<Expr>, one: Expr) -> Result<(), AllocError>
+    ensures { OnOk result (all.new.items ≡ all.old.items ++ one ∷ []) }
+{
+    all.push(one)?;
+    Ok(())
+}

@@ -23,7 +23,7 @@ module _ (p : ℕ → Bool) where
       go true e rest = rw (e, one-add, e) rest
       go false e rest = rw e refl
 
-  run_stops : (xs : List ℕ) (b : ℕ) (more : List ℕ) → drop (prefix_len p xs) xs ≡ b ∷ more → p b ≡ false
+  pub run_stops : (xs : List ℕ) (b : ℕ) (more : List ℕ) → drop (prefix_len p xs) xs ≡ b ∷ more → p b ≡ false
   run_stops [] b more e = absurd (cc)
   run_stops (x ∷ xs) b more e = go (p x) refl (run_stops xs b more)
     where

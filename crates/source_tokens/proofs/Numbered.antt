@@ -75,3 +75,7 @@ new_number keys later v name none e made =
 pub named : {known names : List (List ℕ)} {lexeme : List ℕ} {id : ℕ} → IsName lexeme → IsNumbered known lexeme id names → Spells known lexeme (k.Name id) names
 named {id = id} name (inl h) = old_name id name h.0 refl h.1
 named name (inr h) = new_name name h.0 (ap k.Name h.1) h.2
+
+-- a name that stands at its number
+pub numbered_at : {Z : Type 0} (keys : List (Vec ℕ Z)) (id : ℕ) (v : Vec ℕ Z) (name : List ℕ) → slice_get keys id ≡ Some v → bytes v ≡ name → slice_get (map bytes keys) id ≡ Some name
+numbered_at keys id v name at e = slice_get-map bytes keys id ∙ ap (option_map bytes) at ∙ ap Some e

@@ -30,6 +30,33 @@ pub(crate) fn skip(text: &[u8]) -> &[u8]
     ensures left { result.now ≡ begins text.now }
     ensures shorter { length result.now ≤ length text.now }
 {
+    let (_, rest) = text.split_at(separators_len(text));
+    if rest.is_empty() {
+        return rest;
+    }
+    if rest[0] != b'#' {
+        return rest;
+    }
+    skip_comments(rest)
+}
+
+/// How many separators stand at the front.
+fn separators_len(text: &[u8]) -> usize
+    ensures value { result ≡ prefix_len is_separator text.now }
+    ensures within { result ≤ length text.now }
+{
+    let mut len = 0;
+    while len < text.len() && is_separator(text[len]) {
+        len += 1;
+    }
+    len
+}
+
+/// What is left of a text behind comments and separators, by a look at each byte.
+fn skip_comments(text: &[u8]) -> &[u8]
+    ensures left { result.now ≡ begins text.now }
+    ensures shorter { length result.now ≤ length text.now }
+{
     let mut in_comment = false;
     let mut at = 0;
     while at < text.len() && is_passed(in_comment, text[at]) {

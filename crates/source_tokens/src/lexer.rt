@@ -8,7 +8,7 @@ ghost use Rattle.source_tokens.specs.Names.{spellings};
 
 use crate::bytes::skip;
 use crate::form::lexeme;
-use crate::name::kind_of;
+use crate::name::{RECENT, kind_of};
 use crate::token::{Kind, Sign, Stop, Token};
 use indexmap::IndexSet;
 use std::alloc::{AllocError, Global};
@@ -21,7 +21,8 @@ pub struct Lexed {
     pub stop: Stop,
 }
 
-// The tokens so far of a text of `total` bytes, and the `rest` of it, before which `depth` brackets are open.
+// The tokens so far of a text of `total` bytes, and the `rest` of it, before which `depth` brackets are open. The numbers
+// of recent names save most searches among all names.
 #[derive(Drop)]
 struct Lexer<'a> {
     total: usize,
@@ -29,6 +30,7 @@ struct Lexer<'a> {
     depth: usize,
     tokens: Vec<Token>,
     names: IndexSet<Vec<u8>>,
+    recent: [usize; RECENT],
     ghost within: { length rest.now ≤ total },
 }
 
@@ -83,7 +85,7 @@ impl<'a> Lexer<'a> {
             }));
         };
         let (lexeme, rest) = rest.split_at(len);
-        let Some(kind) = kind_of(alloc, &mut self.names, form, lexeme)? else {
+        let Some(kind) = kind_of(alloc, &mut self.names, &mut self.recent, form, lexeme)? else {
             return Ok(Some(Stop::BadNumber(at)));
         };
         self.tokens.push(Token { at, kind })?;
@@ -111,6 +113,7 @@ pub fn lex(alloc: Global, text: &[u8]) -> Result<Lexed, AllocError>
         depth: 0,
         tokens,
         names: IndexSet::new(alloc),
+        recent: [0; RECENT],
     };
     loop {
         if let Some(stop) = lexer.advance(alloc)? {

@@ -1,6 +1,6 @@
 use Rattle.std.proofs.Common.{sym}
 use Rattle.source_tokens.proofs.Numbered.{old_number, new_number}
-use Rattle.source_tokens.proofs.name.number_of.Goals as goal
+use Rattle.source_tokens.proofs.name.number_in.Goals as goal
 
 pub returns-in-Some : goal.returns-in-Some
 returns-in-Some c = old_number c.args.names.now.keys c.args.spelling.now c.in-Some.id (sym c.in-Some.ensures.index)

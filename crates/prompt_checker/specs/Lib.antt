@@ -2,3 +2,4 @@ pub mod Schedule
 pub mod Plan
 pub mod Verdict
 pub mod Read
+pub mod Watch

@@ -1,12 +1,12 @@
 -- The first and the last vertex of a thread.
-use Rattle.std.proofs.Common.{◌≡◌, ◌≢◌, ℕ, zero, suc, ◌+◌, ◌-◌, ◌<◌, ◌≤◌, List, [], ◌∷◌, length, take, get_or, replicate, refl, sym, ap, ◌∙◌, subst, inl, inr, arith}
-use Rattle.std.specs.List.{sum_by, flat_map, All}
+use Rattle.std.proofs.Common.{◌≡◌, ℕ, zero, suc, ◌+◌, ◌-◌, ◌<◌, ◌≤◌, List, [], ◌∷◌, length, replicate, refl, sym, subst, arith}
+use Rattle.std.specs.List.{flat_map, All}
 use Rattle.std.proofs.lemmas.List.Elements.{All-append, All-from_get_or}
 use Rattle.std.proofs.lemmas.List.{get_or-replicate, length-replicate}
 use Rattle.std.proofs.lemmas.List.Sums.{sum_by_more_le}
 use Rattle.cost_graph.specs.declared.graph.Thread.{Thread}
-use Rattle.cost_graph.specs.Walks.{Leads, Reaches, ProperlyReaches, HasNoCycle}
-use Rattle.cost_graph.specs.Graph.{CostGraph, Edge, no_thread, thread_at, thread_total, vertex_total, first_vertex, last_vertex, vertex_priority, IsGraph, IsOwner, IsAncestor, IsProperAncestor, IsAcyclic}
+use Rattle.cost_graph.specs.Walks.{Reaches, ProperlyReaches, HasNoCycle}
+use Rattle.cost_graph.specs.Graph.{CostGraph, Edge, no_thread, thread_at, thread_total, vertex_total, first_vertex, last_vertex, vertex_priority, IsGraph, IsOwner, IsAncestor}
 use Rattle.cost_graph.proofs.Walks.{reaches_on}
 use Rattle.cost_graph.proofs.Threads.{owner_priority, priorities_before}
 

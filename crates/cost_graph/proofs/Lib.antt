@@ -10,3 +10,4 @@ pub mod Sorting
 pub mod Walks
 pub mod Above
 pub mod Ends
+pub mod Names

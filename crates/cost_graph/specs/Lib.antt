@@ -4,3 +4,4 @@ pub mod Marks
 pub mod Order
 pub mod View
 pub mod Records
+pub mod Text

@@ -6,8 +6,10 @@ mod graph;
 mod kin;
 mod marks;
 mod order;
+mod text;
 
 pub use graph::{Graph, Thread};
 pub use kin::{ancestors, descendants};
 pub use marks::{run_step, sources, visit};
 pub use order::topological;
+pub use text::{push_path, push_vertex};

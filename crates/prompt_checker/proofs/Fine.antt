@@ -30,6 +30,10 @@ place xs v c = (c.0, c.1, get_or_default xs c.0 0 v c.1 ∙ c.2)
 pub stands : (xs : List ℕ) (k v : ℕ) → k < length xs → get_or xs k 0 ≡ v → Contains xs v
 stands xs k v lt e = (k, lt, get_or_default xs k v 0 lt ∙ e)
 
+distinct_one : (v : ℕ) → IsDistinct nat_eq (v ∷ [])
+unfolding IsDistinct
+distinct_one v = (tt, tt)
+
 -- a line whose numbers are new one after the other
 distinct_grown : (done line : List ℕ) → IsDistinct nat_eq done → ((k : ℕ) → k < length line → Contains (done ++ take k line) (get_or line k 0) → ⊥) → (k : ℕ) → k ≤ length line → IsDistinct nat_eq (done ++ take k line)
 distinct_grown done line d new zero le = subst (IsDistinct nat_eq) (sym (append-nil done)) d
@@ -38,12 +42,8 @@ distinct_grown done line d new (suc k) le =
     let le' : k ≤ length line = omega arith in
     let v : ℕ = get_or line k 0 in
     let split = append_assoc done (take k line) (v ∷ []) ∙ ap (λ l. done ++ l) (sym (take-suc k line 0 lt)) in
-    subst (IsDistinct nat_eq) split (distinct_join (done ++ take k line) (v ∷ []) (distinct_grown done line d new k le') (one v) (λ w a b. new k lt (subst (Contains (done ++ take k line)) (sym (only v w b)) a)))
+    subst (IsDistinct nat_eq) split (distinct_join (done ++ take k line) (v ∷ []) (distinct_grown done line d new k le') (distinct_one v) (λ w a b. new k lt (subst (Contains (done ++ take k line)) (sym (only v w b)) a)))
   where
-    one : (v : ℕ) → IsDistinct nat_eq (v ∷ [])
-    unfolding IsDistinct
-    one v = (tt, tt)
-
     only : (v w : ℕ) → Contains (v ∷ []) w → v ≡ w
     only v w c = elim (member_cons v [] w c) [ inl e ↦ e | inr z ↦ absurd (no_member w z) ]
 

@@ -35,6 +35,7 @@ pub(crate) fn add_ready(
     ensures long { length ready.new.items ≡ length ready.old.items }
     ensures held { OnOk result ((p v : ℕ) → (holds ready.new.items p v ≡ true) ↔ ((holds ready.old.items p v ≡ true) ⊎ (Contains vertices.now.items v × (vertex_priority graph.now v ≡ p)))) }
 {
+    let _count = graph.vertex_count();
     for vertex in vertices {
         let set = &mut ready[graph.priority_of_vertex(*vertex) as usize];
         set.insert(*vertex)?;
@@ -49,6 +50,7 @@ fn take_out(graph: &Graph, ready: &mut Vec<BTreeSet<u32>>, line: &Vec<u32>)
     ensures long { length ready.new.items ≡ length ready.old.items }
     ensures held { (p v : ℕ) → (holds ready.new.items p v ≡ true) ↔ ((holds ready.old.items p v ≡ true) × ((Contains line.now.items v × (vertex_priority graph.now v ≡ p)) → Prim.⊥)) }
 {
+    let _count = graph.vertex_count();
     for vertex in line {
         let set = &mut ready[graph.priority_of_vertex(*vertex) as usize];
         set.remove(vertex);

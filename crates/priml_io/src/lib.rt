@@ -15,4 +15,4 @@ pub use sections::{SectionFault, Sections, split};
 pub use standard::{StdSink, StdSource};
 pub use steady::{SteadySink, SteadySource};
 pub use whole::{ReadStop, WriteStop, read_all, write_all};
-pub use words::{Command, WordsFault, read_words};
+pub use words::{Command, WordsFault, capped_value, is_digits, read_words};

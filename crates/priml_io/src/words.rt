@@ -234,7 +234,8 @@ fn number(words: &[String], k: usize, most: u64) -> Result<u64, WordsFault>
     Ok(value)
 }
 
-fn is_digits(word: &[u8]) -> bool
+/// Whether a word is decimal digits, at least one.
+pub fn is_digits(word: &[u8]) -> bool
     ensures { MatchBool result (IsDigits word.now) (¬ IsDigits word.now) }
 {
     if word.is_empty() {
@@ -254,8 +255,8 @@ fn is_digit(b: u8) -> bool
     b'0' <= b && b <= b'9'
 }
 
-/// The value of digits, or the last value of u64 where it is greater.
-fn capped_value(word: &[u8]) -> u64
+/// The value of decimal digits, or the last value of u64 where it is greater.
+pub fn capped_value(word: &[u8]) -> u64
     requires { IsDigits word.now }
     ensures { result ≡ min (value_of word.now) (2 ^ 64 - 1) }
 {

@@ -1,0 +1,4 @@
+pub mod Forms
+pub mod InputLines
+pub mod Inputs
+pub mod PathText

@@ -1,0 +1,9 @@
+//! The text of the inputs.
+#![tactic(auto)]
+
+mod inputs;
+mod line;
+mod path;
+
+pub use inputs::{InputFault, read_inputs};
+pub use path::read_path;

@@ -1,5 +1,5 @@
 -- Finite graphs of threads: the vertices of the threads are numbered from 0, thread by thread.
-use Rattle.std.specs.Prelude.{Bool, cond, nat_eq, nat_lt, ◌^◌, ◌≡◌, ℕ, ◌+◌, ◌-◌, ◌<◌, ◌≤◌, List, [], ◌∷◌, length, take, get_or, replicate}
+use Rattle.std.specs.Prelude.{Bool, nat_eq, ◌^◌, ◌≡◌, ℕ, ◌+◌, ◌-◌, ◌<◌, ◌≤◌, List, [], ◌∷◌, length, take, get_or, replicate}
 use Rattle.std.specs.List.{sum_by, Contains, flat_map, AllByRecursion, list_any, filter, range_with_len}
 use Rattle.std.specs.List.Sorted.{IsStrictlyIncreasing}
 use Rattle.priml_syntax.specs.Paths.{Precedes}
@@ -58,19 +58,6 @@ pub record IsVertexAt (g : CostGraph) (path : List ℕ) (number v : ℕ) : Type 
   pub path_is : (thread_at g thread).path ≡ path
   pub below : number < (thread_at g thread).vertices
   pub is : v ≡ first_vertex g thread + number
-
--- a vertex by name: the path of its thread, and its number there
-pub record Vertex : Type 0 where
-  pub path : List ℕ
-  pub number : ℕ
-
--- the name of the vertex that has this number among the vertices of all these threads
-abbrev pub name_in : List Thread → ℕ → Vertex
-name_in [] v = record { path = []; number = v }
-name_in (t ∷ ts) v = cond (nat_lt v t.vertices) (record { path = t.path; number = v }) (name_in ts (v - t.vertices))
-
-abbrev pub name_of : CostGraph → ℕ → Vertex
-name_of g v = name_in g.threads v
 
 -- each vertex has its thread's priority
 abbrev pub vertex_priority : CostGraph → ℕ → ℕ

@@ -1,15 +1,13 @@
 -- The cost graph of threads with their events: a vertex is a thread's path and a number, and the edges are of three kinds.
-use Rattle.std.specs.Prelude.{◌≡◌, ◌≢◌, ◌⊎◌, ◌↔◌, ◌^◌, ℕ, ◌+◌, ◌-◌, ◌<◌, List, [], ◌∷◌, Option, Some, None, if◌then◌else◌, slice_get, take, map, length}
-use Rattle.std.specs.List.{sum_by, Contains}
+use Rattle.std.specs.Prelude.{◌≡◌, ◌⊎◌, ℕ, ◌+◌, ◌-◌, ◌<◌, List, [], ◌∷◌, Option, Some, None, if◌then◌else◌, slice_get, take, map, length}
+use Rattle.std.specs.List.{sum_by}
 use Rattle.priml_syntax.specs.declared.event.Event.{Event}
-use Rattle.priml_syntax.specs.declared.event.Event.TheVariants.{Start, Spawn, Join, End}
+use Rattle.priml_syntax.specs.declared.event.Event.TheVariants.{Spawn, Join}
 use Rattle.priml_syntax.specs.Paths.{same_path, child_path}
 use Rattle.priml_syntax.specs.Events.{spawns}
 use Rattle.priml_syntax.specs.Values.{Entry}
 use Rattle.priority_order.specs.Order.{AtMost}
 use Rattle.cost_graph.specs.Walks.{Reaches, HasNoCycle}
-use Rattle.cost_graph.specs.declared.graph.Thread.{Thread}
-use Rattle.cost_graph.specs.Graph.{Vertex, CostGraph, IsGraph, Edge, vertex_total, name_of}
 
 -- a thread with its events so far
 pub record Part : Type 0 where
@@ -27,6 +25,10 @@ parts_of = map part_of
 abbrev pub part_at : List Part → List ℕ → Option Part
 part_at [] p = None
 part_at (x ∷ xs) p = if same_path x.path p then Some x else part_at xs p
+
+pub record Vertex : Type 0 where
+  pub path : List ℕ
+  pub number : ℕ
 
 abbrev pub IsVertex : List Part → Vertex → Type 0
 IsVertex xs v = (x : Part) × (part_at xs v.path ≡ Some x) × (v.number < length x.events)
@@ -63,35 +65,6 @@ IsWellFormedGraph pairs xs =
     (x y : Part) (u : Vertex) → part_at xs x.path ≡ Some x → part_at xs u.path ≡ Some y → Reaches (IsEdge xs) u (end_of x) →
     (Reaches (IsEdge xs) u (start_of x) → ⊥) → AtMost pairs x.prio y.prio
 
--- the number of all their events
-abbrev pub event_total : List Part → ℕ
-event_total = sum_by (λ (x : Part). length x.events)
-
--- some thread has the path
-abbrev pub IsThere : List Part → List ℕ → Type 0
-IsThere xs p = (x : Part) × (part_at xs p ≡ Some x)
-
--- some thread made the one of the path in one of its Spawns
-abbrev pub IsSpawned : List Part → List ℕ → Type 0
-IsSpawned xs p = (y : Part) (k : ℕ) × Contains xs y × (p ≡ child_path y.path k) × (k < spawns y.events)
-
--- the threads of a job that has finished, each with all its events
-pub record AreFinished (xs : List Part) : Type 0 where
-  pub root : IsThere xs (0 ∷ [])
-  pub spawned : (x : Part) → Contains xs x → x.path ≢ 0 ∷ [] → IsSpawned xs x.path
-  pub children : (x : Part) (k : ℕ) → Contains xs x → k < spawns x.events → IsThere xs (child_path x.path k)
-  pub joined : (x : Part) (n : ℕ) (p : List ℕ) → Contains xs x → slice_get x.events n ≡ Some (Join p) → IsThere xs p
-  -- Start is just the first event, and End just the last
-  pub starts : (x : Part) (n : ℕ) → Contains xs x → (slice_get x.events n ≡ Some Start) ↔ (n ≡ 0)
-  pub ends : (x : Part) (n : ℕ) → Contains xs x → (slice_get x.events n ≡ Some End) ↔ (n + 1 ≡ length x.events)
-  pub few : event_total xs < 2 ^ 32
-
--- a thread of a graph, with a vertex for each event
-abbrev pub thread_of : Part → Thread
-thread_of x = record { path = x.path; priority = x.prio; vertices = length x.events }
-
--- the graph has these threads, in this order, and its edges are theirs
-pub record IsGraphOf (xs : List Part) (g : CostGraph) : Type 0 where
-  pub threads : g.threads ≡ map thread_of xs
-  pub edges : (u v : ℕ) → u < vertex_total g → v < vertex_total g → Edge g u v ↔ IsEdge xs (name_of g u) (name_of g v)
-  pub kept : IsGraph g
+-- the number of the vertex n of the t-th thread
+abbrev pub number_in : List Part → ℕ → ℕ → ℕ
+number_in xs t n = sum_by (λ (x : Part). length x.events) (take t xs) + n

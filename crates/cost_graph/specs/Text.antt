@@ -1,9 +1,9 @@
 -- The text of paths, vertices and graphs.
-use Rattle.std.specs.Prelude.{ℕ, ◌+◌, List, [], ◌∷◌, ◌++◌, if◌then◌else◌, not, codes, get_or, nat_eq}
-use Rattle.std.specs.List.{flat_map, filter, range_with_len}
+use Rattle.std.specs.Prelude.{ℕ, ◌-◌, List, [], ◌∷◌, ◌++◌, cond, codes, nat_lt}
+use Rattle.std.specs.List.{flat_map}
 use Rattle.std.specs.Fmt.{decimal}
 use Rattle.cost_graph.specs.declared.graph.Thread.{Thread}
-use Rattle.cost_graph.specs.Graph.{CostGraph, Vertex, vertex_total, thread_total, parents_at, first_vertex, name_of}
+use Rattle.cost_graph.specs.Graph.{CostGraph}
 
 -- a number with a dot before it
 abbrev pub dotted : ℕ → List ℕ
@@ -14,36 +14,10 @@ abbrev pub path_text : List ℕ → List ℕ
 path_text [] = []
 path_text (x ∷ xs) = decimal x ++ flat_map dotted xs
 
--- a path, a colon and a number
-abbrev pub name_text : Vertex → List ℕ
-name_text v = path_text v.path ++ codes ":" ++ decimal v.number
+-- the path of a thread and the number of a vertex in it, where the vertex has this number among all of these threads
+abbrev pub vertex_in : List Thread → ℕ → List ℕ
+vertex_in [] v = []
+vertex_in (t ∷ ts) v = cond (nat_lt v t.vertices) (path_text t.path ++ codes ":" ++ decimal v) (vertex_in ts (v - t.vertices))
 
 abbrev pub vertex_text : CostGraph → ℕ → List ℕ
-vertex_text g v = name_text (name_of g v)
-
--- the line of a thread: its path, its priority's name and the number of its vertices
-abbrev pub thread_line : List (List ℕ) → Thread → List ℕ
-thread_line names t = codes "thread " ++ path_text t.path ++ codes " " ++ get_or names t.priority [] ++ codes " " ++ decimal t.vertices ++ 10 ∷ []
-
--- the line of an edge from u to v: its kind and the two vertices
-abbrev pub spawn_line : CostGraph → ℕ → ℕ → List ℕ
-spawn_line g v u = codes "spawn " ++ vertex_text g u ++ codes " " ++ vertex_text g v ++ 10 ∷ []
-
-abbrev pub join_line : CostGraph → ℕ → ℕ → List ℕ
-join_line g v u = codes "join " ++ vertex_text g u ++ codes " " ++ vertex_text g v ++ 10 ∷ []
-
--- an edge to the first vertex of a thread is the Spawn of that thread
-abbrev pub spawn_lines : CostGraph → ℕ → List ℕ
-spawn_lines g t = flat_map (spawn_line g (first_vertex g t)) (parents_at g (first_vertex g t))
-
--- an edge to a later vertex of a thread is a Join, but for the one from the vertex before it
-abbrev pub join_parents : CostGraph → ℕ → List ℕ
-join_parents g v = if nat_eq (name_of g v).number 0 then [] else filter (λ u. not (nat_eq (u + 1) v)) (parents_at g v)
-
-abbrev pub join_lines : CostGraph → ℕ → List ℕ
-join_lines g v = flat_map (join_line g v) (join_parents g v)
-
--- the threads in the order of their paths, then the spawn edges in the order of the threads, then the join edges in that
--- of the vertices that they lead to
-abbrev pub graph_lines : CostGraph → List (List ℕ) → List ℕ
-graph_lines g names = flat_map (thread_line names) g.threads ++ flat_map (spawn_lines g) (range_with_len 0 (thread_total g)) ++ flat_map (join_lines g) (range_with_len 0 (vertex_total g))
+vertex_text g v = vertex_in g.threads v

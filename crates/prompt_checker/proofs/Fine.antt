@@ -41,7 +41,7 @@ distinct_grown done line d new (suc k) le =
     let lt : k < length line = omega arith in
     let le' : k ≤ length line = omega arith in
     let v : ℕ = get_or line k 0 in
-    let split = append_assoc done (take k line) (v ∷ []) ∙ ap (λ l. done ++ l) (sym (take-suc k line 0 lt)) in
+    let split = append_assoc done (take k line) (v ∷ []) ∙ ap (λ l. done ++ l) (sym (take-suc line k 0 lt)) in
     subst (IsDistinct nat_eq) split (distinct_join (done ++ take k line) (v ∷ []) (distinct_grown done line d new k le') (distinct_one v) (λ w a b. new k lt (subst (Contains (done ++ take k line)) (sym (only v w b)) a)))
   where
     only : (v w : ℕ) → Contains (v ∷ []) w → v ≡ w

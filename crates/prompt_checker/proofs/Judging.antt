@@ -1,5 +1,5 @@
 -- What the judge keeps from step to step, and what it has at the end.
-use Rattle.std.proofs.Common.{◌≡◌, ℕ, zero, suc, ◌+◌, ◌<◌, ◌≤◌, ◌↔◌, ◌⊎◌, ◌==◌, Bool, true, false, List, [], ◌∷◌, ◌++◌, length, take, drop, get_or, replicate, refl, sym, ap, ◌∙◌, subst, inl, inr, arith, add-one}
+use Rattle.std.proofs.Common.{◌≡◌, ℕ, zero, suc, ◌+◌, ◌<◌, ◌≤◌, ◌↔◌, ◌⊎◌, ◌==◌, Bool, true, false, List, [], ◌∷◌, ◌++◌, length, take, drop, get_or, replicate, refl, sym, ap, ◌∙◌, subst, inl, inr, arith}
 use Rattle.std.specs.Prelude.{Option, None, Some}
 use Rattle.std.specs.List.{concat, Contains, filter, range_with_len}
 use Rattle.std.specs.BTreeSet.{BTreeSet}
@@ -91,7 +91,7 @@ module _ (g : CostGraph) (pairs : List (ℕ × ℕ)) (count cores : ℕ) (steps 
       ready = line_ready lt fine
 
       more : vertices_before steps (i + 1) ≡ vertices_before steps i ++ step_at steps i
-      more = ap (vertices_before steps) add-one ∙ before_more steps i lt
+      more = (let e : i + 1 ≡ suc i = omega arith in ap (vertices_before steps) e ∙ before_more steps i lt)
 
       to : (p v : ℕ) → holds next p v ≡ true → IsReady g (vertices_before steps i ++ step_at steps i) v × (vertex_priority g v ≡ p)
       to p v h =

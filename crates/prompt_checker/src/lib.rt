@@ -3,8 +3,12 @@
 
 mod checker;
 mod marks;
+mod reader;
 mod ready;
 mod schedule;
+mod text;
 
 pub use checker::judge;
+pub use reader::{ScheduleFault, read_schedule};
 pub use schedule::{Flaw, FlawKind, Schedule, Verdict};
+pub use text::plan_text;

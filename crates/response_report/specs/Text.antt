@@ -3,8 +3,16 @@ use Rattle.std.specs.Prelude.{ℕ, List, [], ◌∷◌, ◌++◌, codes, get_or}
 use Rattle.std.specs.List.{flat_map}
 use Rattle.std.specs.Fmt.{decimal}
 use Rattle.cost_graph.specs.Graph.{CostGraph, thread_at}
-use Rattle.cost_graph.specs.Text.{path_text}
 use Rattle.response_report.specs.declared.row.Row.{Row}
+
+-- a number with a dot before it
+abbrev pub dotted : ℕ → List ℕ
+dotted n = codes "." ++ decimal n
+
+-- the numbers of a path with a dot between
+abbrev pub path_text : List ℕ → List ℕ
+path_text [] = []
+path_text (x ∷ xs) = decimal x ++ flat_map dotted xs
 
 -- the line of a row, with the thread's path and its priority's name
 abbrev pub row_line : CostGraph → List (List ℕ) → Row → List ℕ

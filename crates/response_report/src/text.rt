@@ -1,14 +1,15 @@
 ghost use Rattle.std.specs.Prelude.{◌≡◌, ℕ, ◌++◌, ◌∷◌, [], ◌<◌, List, OnOk, IfOk, length, codes, get_or};
 ghost use Rattle.std.specs.String.{string_bytes};
 ghost use Rattle.std.specs.Fmt.{decimal};
-ghost use Rattle.std.specs.List.{All};
+ghost use Rattle.std.specs.List.{All, flat_map};
 ghost use Rattle.cost_graph.specs.declared.graph.Thread.{Thread as TheThread};
 ghost use Rattle.cost_graph.specs.Graph.{thread_total, thread_at};
 ghost use Rattle.response_report.specs.declared.row.Row.{Row as TheRow};
-ghost use Rattle.response_report.specs.Text.{row_line, response_lines};
+ghost use Rattle.response_report.specs.Text.{dotted, path_text, row_line, response_lines};
 
 use crate::row::Row;
-use cost_graph::{Graph, push_path};
+use cost_graph::Graph;
+use priml_syntax::Path;
 use priority_order::Order;
 use std::alloc::{AllocError, Global};
 use std::fmt::Write;
@@ -59,4 +60,23 @@ fn push_numbers(text: &mut String, name: &str, row: &Row) -> Result<(), AllocErr
 {
     write!(text, " {name} time {} work {}", row.response, row.work)?;
     writeln!(text, " span {} bound {}", row.span, row.bound)
+}
+
+// Appends the numbers of a path with a dot between.
+fn push_path(text: &mut String, path: &Path) -> Result<(), AllocError>
+    ensures { OnOk result (string_bytes text.new ≡ string_bytes text.old ++ path_text path.now) }
+{
+    let parts = path.parts();
+    write!(text, "{}", parts[0])?;
+    push_dotted(text, &parts[1..])
+}
+
+// Appends each number with a dot before it.
+fn push_dotted(text: &mut String, numbers: &[u32]) -> Result<(), AllocError>
+    ensures { OnOk result (string_bytes text.new ≡ string_bytes text.old ++ flat_map dotted numbers.now) }
+{
+    for number in numbers {
+        write!(text, ".{number}")?;
+    }
+    Ok(())
 }

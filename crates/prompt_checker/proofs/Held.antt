@@ -1,5 +1,5 @@
 -- The sets after a vertex is taken out of its set, or put into it.
-use Rattle.std.proofs.Common.{◌≡◌, ◌≢◌, ℕ, ◌+◌, ◌<◌, ◌↔◌, Bool, true, false, cond, List, [], ◌∷◌, ◌++◌, length, take, get_or, map, set, refl, sym, ap, ◌∙◌, subst, inl, inr, arith, ◌⊎◌}
+use Rattle.std.proofs.Common.{◌≡◌, ◌≢◌, ℕ, ◌+◌, ◌<◌, ◌≤◌, ◌↔◌, Bool, true, false, cond, List, [], ◌∷◌, ◌++◌, length, take, get_or, map, set, refl, sym, ap, ◌∙◌, subst, inl, inr, arith, ◌⊎◌}
 use Rattle.std.specs.declared.cmp.Ordering.{Ordering}
 use Rattle.std.specs.declared.cmp.Ordering.TheVariants.{Less, Equal, Greater}
 use Rattle.std.specs.Ordering.{nat_cmp, is_eq}
@@ -7,13 +7,17 @@ use Rattle.std.specs.BTreeMap.{is_at}
 use Rattle.std.specs.BTreeSet.{BTreeSet, contains, UpdatesBy}
 use Rattle.std.specs.List.{Contains}
 use Rattle.std.specs.Cmp.{nat_cmp_is}
-use Rattle.std.proofs.lemmas.Bool.{cases_eq, cases_Bool, both_ways, cond-true, cond-false, false_from_ne_true}
+use Rattle.std.specs.Prelude.{Option, Some, None}
+use Rattle.std.specs.List.{list_any}
+use Rattle.std.proofs.Math.ListN.{get_or-append}
+use Rattle.std.proofs.lemmas.Bool.{cases_eq, cases_lt, both_ways, cond-true, cond-false, false_from_ne_true}
 use Rattle.std.proofs.lemmas.Cmp.{ranked}
-use Rattle.std.proofs.lemmas.List.{map-set, get_or-set_same, get_or-set_other, length-map, take_more}
+use Rattle.std.proofs.lemmas.List.{map-set, map-append, get_or-set_same, get_or-set_other, get_or_push, get_or_past, length-map, length-append, take_more}
 use Rattle.std.proofs.lemmas.List.Elements.{Contains-append_left, Contains-append_right, Contains-append_cases}
 use Rattle.cost_graph.specs.Graph.{CostGraph, vertex_priority}
 use Rattle.cost_graph.proofs.Members.{no_member, member_cons, member_head}
-use Rattle.prompt_checker.specs.Watch.{holds}
+use Rattle.prompt_checker.specs.Verdict.{IsLeast}
+use Rattle.prompt_checker.specs.Watch.{holds, IsHeld, IsOvertaken}
 use Rattle.prompt_checker.proofs.Least.{holds_at}
 
 at_same : (x v : ℕ) → is_at (nat_cmp x) v ≡ true → x ≡ v
@@ -104,15 +108,15 @@ module _ (g : CostGraph) (list : List ℕ) (old now next : List (BTreeSet ℕ)) 
       to q v h =
           elim (is_x p q (get_or list i 0) v) [
             | inl at ↦ absurd (both_ways (holds next q v) (at_x now next p (get_or list i 0) s s' small read e false updates q v at.1 at.0) h)
-            | inr no ↦ (
-              let was = (before.are q v).0 (sym (not_x now next p (get_or list i 0) s s' small read e false updates q v no) ∙ h) in
-              (was.0, λ c. elim (more_cases list i v lt c.0) [ inl early ↦ was.1 (early, c.1) | inr late ↦ no (late, own q v late c.1) ]))
+            | inr off ↦ (
+              let was = (before.are q v).0 (sym (not_x now next p (get_or list i 0) s s' small read e false updates q v off) ∙ h) in
+              (was.0, λ c. elim (more_cases list i v lt c.0) [ inl early ↦ was.1 (early, c.1) | inr late ↦ off (late, own q v late c.1) ]))
           ]
 
       from : (q v : ℕ) → (holds old q v ≡ true) × ((Contains (take (i + 1) list) v × (vertex_priority g v ≡ q)) → ⊥) → holds next q v ≡ true
       from q v h =
-          let no = λ (a : (get_or list i 0 ≡ v) × (p ≡ q)). h.1 (more_late list i v lt a.0, owner q v a.0 a.1) in
-          not_x now next p (get_or list i 0) s s' small read e false updates q v no ∙ (before.are q v).1 (h.0, λ c. h.1 (more_early list i v lt c.0, c.1))
+          let off = λ (a : (get_or list i 0 ≡ v) × (p ≡ q)). h.1 (more_late list i v lt a.0, owner q v a.0 a.1) in
+          not_x now next p (get_or list i 0) s s' small read e false updates q v off ∙ (before.are q v).1 (h.0, λ c. h.1 (more_early list i v lt c.0, c.1))
 
   pub in_more : length next ≡ length now → ((v : ℕ) → contains nat_cmp s' v ≡ cond (is_at (nat_cmp (get_or list i 0)) v) true (contains nat_cmp s v)) → AreIn g list old now i → AreIn g list old next (i + 1)
   in_more long updates before = record { long = long ∙ before.long; are = λ q v. (to q v, from q v) }
@@ -121,7 +125,7 @@ module _ (g : CostGraph) (list : List ℕ) (old now next : List (BTreeSet ℕ)) 
       to q v h =
           elim (is_x p q (get_or list i 0) v) [
             | inl at ↦ inr (more_late list i v lt at.0, owner q v at.0 at.1)
-            | inr no ↦ elim ((before.are q v).0 (sym (not_x now next p (get_or list i 0) s s' small read e true updates q v no) ∙ h)) [
+            | inr off ↦ elim ((before.are q v).0 (sym (not_x now next p (get_or list i 0) s s' small read e true updates q v off) ∙ h)) [
               | inl was ↦ inl was
               | inr early ↦ inr (more_early list i v lt early.0, early.1)
             ]
@@ -131,15 +135,35 @@ module _ (g : CostGraph) (list : List ℕ) (old now next : List (BTreeSet ℕ)) 
       from q v h =
           elim (is_x p q (get_or list i 0) v) [
             | inl at ↦ at_x now next p (get_or list i 0) s s' small read e true updates q v at.1 at.0
-            | inr no ↦ not_x now next p (get_or list i 0) s s' small read e true updates q v no ∙ (before.are q v).1 (back q v no h)
+            | inr off ↦ not_x now next p (get_or list i 0) s s' small read e true updates q v off ∙ (before.are q v).1 (back q v off h)
           ]
         where
           back : (q v : ℕ) → ((get_or list i 0 ≡ v) × (p ≡ q) → ⊥) → (holds old q v ≡ true) ⊎ (Contains (take (i + 1) list) v × (vertex_priority g v ≡ q)) → (holds old q v ≡ true) ⊎ (Contains (take i list) v × (vertex_priority g v ≡ q))
-          back q v no (inl was) = inl was
-          back q v no (inr c) = elim (more_cases list i v lt c.0) [ inl early ↦ inr (early, c.1) | inr late ↦ absurd (no (late, own q v late c.1)) ]
+          back q v off (inl was) = inl was
+          back q v off (inr c) = elim (more_cases list i v lt c.0) [ inl early ↦ inr (early, c.1) | inr late ↦ absurd (off (late, own q v late c.1)) ]
 
 pub out_start : (g : CostGraph) (line : List ℕ) (sets : List (BTreeSet ℕ)) → AreOut g line sets sets 0
 out_start g line sets = record { long = refl; are = λ q v. (λ h. (h, λ c. no_member v c.0), λ h. h.0) }
 
 pub in_start : (g : CostGraph) (list : List ℕ) (sets : List (BTreeSet ℕ)) → AreIn g list sets sets 0
 in_start g list sets = record { long = refl; are = λ q v. (λ h. inl h, λ h. elim h [ inl was ↦ was | inr c ↦ absurd (no_member v c.0) ]) }
+
+-- an empty set behind sets that hold nothing
+pub empty_push : (sets next : List (BTreeSet ℕ)) (s : BTreeSet ℕ) → s.keys ≡ [] → next ≡ sets ++ s ∷ [] → ((p v : ℕ) → holds sets p v ≡ false) → (p v : ℕ) → holds next p v ≡ false
+empty_push sets next s none e before p v =
+    let f = λ (t : BTreeSet ℕ). contains nat_cmp t v in
+    let start : holds next p v ≡ get_or (map f sets ++ f s ∷ []) p false = ap (λ l. holds l p v) e ∙ ap (λ l. get_or l p false) (map-append f sets (s ∷ [])) in
+    elim (cases_lt p (length (map f sets))) [
+      | inl early ↦ start ∙ get_or-append (map f sets) (f s ∷ []) false p early ∙ before p v
+      | inr late ↦ elim (cases_eq p (length (map f sets))) [
+        | inl same ↦ start ∙ get_or_push (map f sets) (f s) false p (sym same) ∙ ap (list_any (is_at (nat_cmp v))) none
+        | inr other ↦ (let past : length (map f sets ++ f s ∷ []) ≤ p = omega (arith, late, other, length-append (map f sets) (f s ∷ [])) in start ∙ get_or_past (map f sets ++ f s ∷ []) p false past)
+      ]
+    ]
+
+-- the first vertex with one above it in the sets
+pub overtaken_made : (g : CostGraph) (pairs : List (ℕ × ℕ)) (sets : List (BTreeSet ℕ)) (line : List ℕ) (i a v u : ℕ) → i < length line → v ≡ get_or line i 0 → a ≡ vertex_priority g v → IsLeast (IsHeld pairs sets (Some a)) u
+    → ((k : ℕ) → k < i → (x : ℕ) → IsHeld pairs sets (Some (vertex_priority g (get_or line k 0))) x → ⊥) → IsOvertaken g pairs sets line (Some (v, u))
+overtaken_made g pairs sets line i a v u lt ev ea least none =
+    let here : IsLeast (IsHeld pairs sets (Some (vertex_priority g v))) u = subst (λ p. IsLeast (IsHeld pairs sets (Some p)) u) ea least in
+    ((i, lt, sym ev, (u, here.0), λ k small h. none k small h.0 h.1), here)

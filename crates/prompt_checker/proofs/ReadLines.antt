@@ -1,6 +1,8 @@
 -- What the lines of a schedule's text give.
-use Rattle.std.proofs.Common.{◌≡◌, ◌≢◌, ℕ, zero, suc, ◌+◌, ◌<◌, ◌≤◌, List, [], ◌∷◌, ◌++◌, length, get_or, map, All, Option, Some, None, refl, sym, ap, ◌∙◌, subst, inl, inr, ◌⊎◌, arith, append_assoc, append-nil}
+use Rattle.std.proofs.Common.{◌≡◌, ◌≢◌, ℕ, zero, suc, ◌+◌, ◌<◌, ◌≤◌, List, [], ◌∷◌, ◌++◌, length, get_or, map, All, Option, Some, None, Result, Ok, Err, IfErr, Bool, true, false, ◌==◌, refl, sym, ap, ◌∙◌, subst, inl, inr, ◌⊎◌, arith, append_assoc, append-nil}
 use Rattle.std.specs.Prelude.{MatchOption}
+use Rattle.std.specs.Result.{IsErrAnd}
+use Rattle.std.proofs.lemmas.Bool.Decides.{nat_tests}
 use Rattle.std.specs.List.{Contains}
 use Rattle.priml_io.specs.Lines.{lines}
 use Rattle.priml_io.specs.Sections.{IsRow}
@@ -13,6 +15,7 @@ use Rattle.inputs_text.proofs.LineForms.{cut-one, no-colon}
 use Rattle.inputs_text.proofs.Reading.{Places, same_place, comes_before, comes_after, places}
 use Rattle.std.proofs.lemmas.List.Elements.{All-cons, All-nil}
 use Rattle.cost_graph.specs.Graph.{CostGraph, IsGraph, IsVertexAt, first_vertex, vertex_total}
+use Rattle.cost_graph.proofs.Members.{no_member_short, member_head}
 use Rattle.cost_graph.proofs.Threads.{one_path}
 use Rattle.cost_graph.proofs.Ends.{thread_within}
 use Rattle.prompt_checker.specs.ScheduleText.{Name, IsVertexText, IsNamed, IsVertexWord, IsUnknownWord, IsBadWord, IsStepLine, IsBadLine, IsUnknownLine, AreStepLines, IsLineFault, IsFirstFault, HasFault, ReadsOneWay}
@@ -212,3 +215,16 @@ steps-below g ok [] [] p = All-nil (λ (s : List ℕ). All (λ v. v < vertex_tot
 steps-below g ok [] (s ∷ steps) p = absurd p
 steps-below g ok (l ∷ ls) [] p = absurd p
 steps-below g ok (l ∷ ls) (s ∷ steps) p = All-cons (λ (x : List ℕ). All (λ v. v < vertex_total g) x) s steps (step-below g ok (words_of l) s p.0) (steps-below g ok ls steps p.1)
+
+-- a fault that is handed on
+pub handed : {A : Type 0} (g : CostGraph) (e : ScheduleFault) (r : Result A ScheduleFault) (ls : List (List ℕ)) → IsErrAnd r (λ f. f ≡ e) → HasFault g ls e → IfErr r (HasFault g ls)
+handed g e (Ok x) ls is h = absurd is
+handed g e (Err f) ls is h = subst (HasFault g ls) (sym is) h
+
+-- what a test for emptiness tells
+pub some-left : (n : ℕ) → (n == 0) ≡ false → 0 < n
+some-left n e = grind (arith, nat_tests)
+
+pub none-left : (xs : List ℕ) → (length xs == 0) ≡ true → xs ≡ []
+none-left [] e = refl
+none-left (x ∷ xs) e = absurd (no_member_short (x ∷ xs) x e (member_head x xs))

@@ -2,6 +2,7 @@ ghost use Rattle.std.specs.Prelude.{◌≡◌, ℕ, ◌+◌, ◌<◌, ◌≤◌,
 ghost use Rattle.std.specs.List.{All};
 ghost use Rattle.cost_graph.specs.declared.graph.Thread.{Thread as TheThread};
 ghost use Rattle.cost_graph.specs.Graph.{vertex_total, IsAcyclic, IsVertexBelow};
+ghost use Rattle.prompt_checker.specs.declared.schedule.Verdict.{Verdict as TheVerdict};
 ghost use Rattle.prompt_checker.specs.Read.{steps_of};
 ghost use Rattle.prompt_checker.specs.Verdict.{IsVerdict};
 
@@ -26,7 +27,8 @@ pub fn judge(
     requires cores { 1 ≤ cores }
     requires vertices { All (λ s. All (λ v. v < vertex_total graph.now) s) (steps_of schedule.now) }
     requires priorities { All (λ (t : TheThread). t.priority < length order.now.names) graph.now.threads }
-    ensures { IfOk result (IsVerdict graph.now (IsVertexBelow graph.now order.now.pairs) cores (steps_of schedule.now)) }
+    ensures verdict { IfOk result (IsVerdict graph.now (IsVertexBelow graph.now order.now.pairs) cores (steps_of schedule.now)) }
+    ensures only { IfOk result (λ v. (other : TheVerdict) → IsVerdict graph.now (IsVertexBelow graph.now order.now.pairs) cores (steps_of schedule.now) other → other ≡ v) }
 {
     let count = graph.vertex_count() as usize;
     let mut stood = vec![in alloc; false; count]?;

@@ -77,9 +77,9 @@ fn is_ready(graph: &Graph, marks: &Vec<bool>, vertex: u32) -> bool
     are_marked(marks, graph.parents_of(vertex))
 }
 
-fn are_marked(marks: &Vec<bool>, numbers: &[u32]) -> bool
-    requires { All (λ n. n < length marks.now.items) numbers.now }
-    ensures { result ≡ list_all (is_marked marks.now.items) numbers.now }
+fn are_marked(marks: &[bool], numbers: &[u32]) -> bool
+    requires { All (λ n. n < length marks.now) numbers.now }
+    ensures { result ≡ list_all (is_marked marks.now) numbers.now }
 {
     numbers.iter().all(|n| marks[*n as usize])
 }

@@ -37,8 +37,8 @@ pub(crate) fn add_ready(
 {
     let _count = graph.vertex_count();
     for vertex in vertices {
-        let set = &mut ready[graph.priority_of_vertex(*vertex) as usize];
-        set.insert(*vertex)?;
+        let p = graph.priority_of_vertex(*vertex) as usize;
+        ready[p].insert(*vertex)?;
     }
     Ok(())
 }
@@ -52,8 +52,8 @@ fn take_out(graph: &Graph, ready: &mut Vec<BTreeSet<u32>>, line: &Vec<u32>)
 {
     let _count = graph.vertex_count();
     for vertex in line {
-        let set = &mut ready[graph.priority_of_vertex(*vertex) as usize];
-        set.remove(vertex);
+        let p = graph.priority_of_vertex(*vertex) as usize;
+        ready[p].remove(vertex);
     }
 }
 

@@ -1,6 +1,6 @@
 -- The flaw of a step, from what the marks and the sets show.
-use Rattle.std.proofs.Common.{◌≡◌, ℕ, ◌<◌, ◌≤◌, ◌↔◌, Bool, true, false, List, length, take, get_or, refl, sym, ◌∙◌, subst, inl, inr, arith, ◌⊎◌, ◌++◌}
-use Rattle.std.specs.Prelude.{Option, None, Some}
+use Rattle.std.proofs.Common.{◌≡◌, ℕ, ◌<◌, ◌≤◌, ◌↔◌, Bool, true, List, length, take, get_or, refl, sym, subst, inl, inr, arith}
+use Rattle.std.specs.Prelude.{None, Some}
 use Rattle.std.specs.List.{Contains}
 use Rattle.std.specs.BTreeSet.{BTreeSet}
 use Rattle.std.proofs.lemmas.Bool.{cases_Bool, both_ways}
@@ -12,7 +12,7 @@ use Rattle.cost_graph.proofs.Members.{parents_seen, in_take}
 use Rattle.cost_graph.proofs.ReadyNext.{IsDone, after_marked, marked_after, free_from, free_parent}
 use Rattle.prompt_checker.specs.Schedule.{vertices_before, step_at}
 use Rattle.prompt_checker.specs.Verdict.{rank, StoodBefore, LacksParent, IsLeftOut, Overtakes, HasFlaw, IsFlaw}
-use Rattle.prompt_checker.specs.Watch.{IsFound, IsLeastOf, WasMarked, IsEarly, holds, IsHeld, IsIdle, IsOvertaken, IsBroken, IsUnfair}
+use Rattle.prompt_checker.specs.Watch.{IsFound, WasMarked, IsEarly, holds, IsHeld, IsIdle, IsBroken, IsUnfair}
 use Rattle.prompt_checker.specs.declared.schedule.FlawKind.{FlawKind}
 use Rattle.prompt_checker.specs.declared.schedule.FlawKind.TheVariants.{EmptyStep, TooWide, Twice, NotReady, IdleCore, Inverted, Unfinished}
 use Rattle.prompt_checker.proofs.Fine.{IsFine, place, no_flaw}
@@ -170,10 +170,11 @@ module _ (g : CostGraph) (pairs : List (ℕ × ℕ)) (cores : ℕ) (steps : List
           is_flaw i (IdleCore u) le before (lt, h.0, least_same (IsHeld pairs left None) (IsLeftOut g (IsVertexBelow g pairs) cores steps i) left_to left_from u h.1)
           (none_to i 5 (λ _. empty_not fine.0) (λ _. wide_not fine.1) (λ _. twice_not fine.2) (λ _. early_not fine.3) (λ l. absurd (omega (arith, l))) (λ l. absurd (omega (arith, l))) (λ l. absurd (omega (arith, l))))
       unfair_flaw (Inverted v u) h =
-          is_flaw i (Inverted v u) le before
-          (lt,
+          is_flaw i (Inverted v u) le before (
+            lt,
             first_same line (λ j w. (x : ℕ) × IsHeld pairs left (Some (vertex_priority g w)) x) (λ j w. (x : ℕ) × Overtakes g (IsVertexBelow g pairs) cores steps i w x) (λ j w s. (s.0, over_to w s.0 s.1)) (λ j w s. (s.0, over_from w s.0 s.1)) v h.1.0,
-            least_same (IsHeld pairs left (Some (vertex_priority g v))) (Overtakes g (IsVertexBelow g pairs) cores steps i v) (over_to v) (over_from v) u h.1.1)
+            least_same (IsHeld pairs left (Some (vertex_priority g v))) (Overtakes g (IsVertexBelow g pairs) cores steps i v) (over_to v) (over_from v) u h.1.1,
+          )
           (none_to i 6 (λ _. empty_not fine.0) (λ _. wide_not fine.1) (λ _. twice_not fine.2) (λ _. early_not fine.3) (λ _. idle_not h.0) (λ l. absurd (omega (arith, l))) (λ l. absurd (omega (arith, l))))
       unfair_flaw (Unfinished u) h = absurd h
 

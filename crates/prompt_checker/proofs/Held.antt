@@ -4,10 +4,10 @@ use Rattle.std.specs.declared.cmp.Ordering.{Ordering}
 use Rattle.std.specs.declared.cmp.Ordering.TheVariants.{Less, Equal, Greater}
 use Rattle.std.specs.Ordering.{nat_cmp, is_eq}
 use Rattle.std.specs.BTreeMap.{is_at}
-use Rattle.std.specs.BTreeSet.{BTreeSet, contains, UpdatesBy}
+use Rattle.std.specs.BTreeSet.{BTreeSet, contains}
 use Rattle.std.specs.List.{Contains}
 use Rattle.std.specs.Cmp.{nat_cmp_is}
-use Rattle.std.specs.Prelude.{Option, Some, None}
+use Rattle.std.specs.Prelude.{Some}
 use Rattle.std.specs.List.{list_any}
 use Rattle.std.proofs.Math.ListN.{get_or-append}
 use Rattle.std.proofs.lemmas.Bool.{cases_eq, cases_lt, both_ways, cond-true, cond-false, false_from_ne_true}
@@ -55,8 +55,8 @@ module _ (sets next : List (BTreeSet ℕ)) (p x : ℕ) (s s' : BTreeSet ℕ) (lt
         elim (cases_eq q p) [
           | inr other ↦ there q v other
           | inl same ↦ (
-            let no_at = false_from_ne_true (is_at (nat_cmp x) v) (λ t. ne (at_same x v t, sym same)) in
-            ap (λ r. holds next r v) same ∙ here v ∙ updates v ∙ cond-false (is_at (nat_cmp x) v) b (contains nat_cmp s v) no_at ∙ sym (holds_at sets p v s lt read) ∙ ap (λ r. holds sets r v) (sym same))
+              let no_at = false_from_ne_true (is_at (nat_cmp x) v) (λ t. ne (at_same x v t, sym same)) in
+              ap (λ r. holds next r v) same ∙ here v ∙ updates v ∙ cond-false (is_at (nat_cmp x) v) b (contains nat_cmp s v) no_at ∙ sym (holds_at sets p v s lt read) ∙ ap (λ r. holds sets r v) (sym same))
         ]
 
 is_x : (p q x v : ℕ) → ((x ≡ v) × (p ≡ q)) ⊎ ((x ≡ v) × (p ≡ q) → ⊥)
@@ -109,8 +109,8 @@ module _ (g : CostGraph) (list : List ℕ) (old now next : List (BTreeSet ℕ)) 
           elim (is_x p q (get_or list i 0) v) [
             | inl at ↦ absurd (both_ways (holds next q v) (at_x now next p (get_or list i 0) s s' small read e false updates q v at.1 at.0) h)
             | inr off ↦ (
-              let was = (before.are q v).0 (sym (not_x now next p (get_or list i 0) s s' small read e false updates q v off) ∙ h) in
-              (was.0, λ c. elim (more_cases list i v lt c.0) [ inl early ↦ was.1 (early, c.1) | inr late ↦ off (late, own q v late c.1) ]))
+                let was = (before.are q v).0 (sym (not_x now next p (get_or list i 0) s s' small read e false updates q v off) ∙ h) in
+                (was.0, λ c. elim (more_cases list i v lt c.0) [ inl early ↦ was.1 (early, c.1) | inr late ↦ off (late, own q v late c.1) ]))
           ]
 
       from : (q v : ℕ) → (holds old q v ≡ true) × ((Contains (take (i + 1) list) v × (vertex_priority g v ≡ q)) → ⊥) → holds next q v ≡ true

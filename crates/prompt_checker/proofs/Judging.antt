@@ -1,22 +1,20 @@
 -- What the judge keeps from step to step, and what it has at the end.
-use Rattle.std.proofs.Common.{◌≡◌, ℕ, zero, suc, ◌+◌, ◌<◌, ◌≤◌, ◌↔◌, ◌⊎◌, ◌==◌, Bool, true, false, List, [], ◌∷◌, ◌++◌, length, take, drop, get_or, replicate, refl, sym, ap, ◌∙◌, subst, inl, inr, arith}
-use Rattle.std.specs.Prelude.{Option, None, Some}
+use Rattle.std.proofs.Common.{◌≡◌, ℕ, suc, ◌+◌, ◌<◌, ◌↔◌, ◌⊎◌, ◌==◌, Bool, true, false, List, ◌++◌, length, replicate, refl, sym, ap, ◌∙◌, subst, inl, inr, arith}
+use Rattle.std.specs.Prelude.{None, Some}
 use Rattle.std.specs.List.{concat, Contains, filter, range_with_len}
 use Rattle.std.specs.BTreeSet.{BTreeSet}
 use Rattle.std.proofs.lemmas.Bool.{cases_lt, cases_Bool, both_ways}
 use Rattle.std.proofs.Math.Seq.{take-length}
 use Rattle.cost_graph.specs.Graph.{CostGraph, vertex_total, vertex_priority, parents_at, IsVertexBelow}
 use Rattle.cost_graph.specs.Marks.{IsReady, IsSeen, is_marked, marks_after, freed_by}
-use Rattle.cost_graph.proofs.Members.{member_or_not}
 use Rattle.cost_graph.proofs.ReadyNext.{IsDone, done_next, ready_then, then_ready}
 use Rattle.cost_graph.proofs.Sorting.{IsSorting, sorting_from}
 use Rattle.prompt_checker.specs.Schedule.{vertices_before, step_at, IsPrompt}
-use Rattle.prompt_checker.specs.Verdict.{HasFlaw, IsFlaw, IsVerdict}
+use Rattle.prompt_checker.specs.Verdict.{IsVerdict}
 use Rattle.prompt_checker.specs.Watch.{IsLeastOf, holds, IsBroken, IsUnfair}
 use Rattle.prompt_checker.specs.declared.schedule.FlawKind.{FlawKind}
 use Rattle.prompt_checker.specs.declared.schedule.FlawKind.TheVariants.{Unfinished}
-use Rattle.prompt_checker.specs.declared.schedule.Verdict.{Verdict}
-use Rattle.prompt_checker.specs.declared.schedule.Verdict.TheVariants.{Prompt, Flaw}
+use Rattle.prompt_checker.specs.declared.schedule.Verdict.TheVariants.{Flaw}
 use Rattle.prompt_checker.proofs.Steps.{before_more}
 use Rattle.prompt_checker.proofs.Fine.{IsFine, fine_is_prompt, prompt_no_flaw}
 use Rattle.prompt_checker.proofs.Flaws.{AreHeld, AreLeft, runs, broken_flaw, unfair_flaw, fine_here, missing_flaw}
@@ -82,8 +80,8 @@ module _ (g : CostGraph) (pairs : List (ℕ × ℕ)) (count cores : ℕ) (steps 
     fine = λ j lt_j. elim (cases_lt j i) [
       | inl early ↦ now.fine j early
       | inr late ↦ (
-        let same : i ≡ j = omega (arith, late, lt_j) in
-        subst (IsFine g (IsVertexBelow g pairs) cores steps) same (fine_here g pairs cores steps i lt marks now.done (λ v. small i v lt) now.fine sets left now.held out fine fair))
+          let same : i ≡ j = omega (arith, late, lt_j) in
+          subst (IsFine g (IsVertexBelow g pairs) cores steps) same (fine_here g pairs cores steps i lt marks now.done (λ v. small i v lt) now.fine sets left now.held out fine fair))
     ];
   }
     where
@@ -97,9 +95,9 @@ module _ (g : CostGraph) (pairs : List (ℕ × ℕ)) (count cores : ℕ) (steps 
       to p v h =
           elim ((are p v).0 h) [
             | inl stays ↦ (
-              let both = (out.are p v).0 stays in
-              let r = (now.held.are p v).0 both.0 in
-              (then_ready g marks (vertices_before steps i) (step_at steps i) now.done ready v (inl (r.0, λ c. both.1 (c, r.1))), r.1))
+                let both = (out.are p v).0 stays in
+                let r = (now.held.are p v).0 both.0 in
+                (then_ready g marks (vertices_before steps i) (step_at steps i) now.done ready v (inl (r.0, λ c. both.1 (c, r.1))), r.1))
             | inr f ↦ (then_ready g marks (vertices_before steps i) (step_at steps i) now.done ready v (inr (subst (λ l. Contains l v) ef f.0)), f.1)
           ]
 

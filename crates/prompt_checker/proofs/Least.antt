@@ -1,5 +1,5 @@
 -- The least vertex of the sets of some priorities, set by set.
-use Rattle.std.proofs.Common.{◌≡◌, ℕ, ◌+◌, ◌<◌, ◌≤◌, Bool, true, false, List, length, get_or, map, min, refl, sym, ap, ◌∙◌, subst, inl, inr, arith, ◌⊎◌}
+use Rattle.std.proofs.Common.{◌≡◌, ℕ, ◌+◌, ◌<◌, ◌≤◌, true, false, List, length, get_or, map, min, refl, sym, ap, ◌∙◌, subst, inl, inr, arith, ◌⊎◌}
 use Rattle.std.specs.Prelude.{Option, None, Some}
 use Rattle.std.specs.declared.cmp.Ordering.{Ordering}
 use Rattle.std.specs.declared.cmp.Ordering.TheVariants.{Less, Equal, Greater}
@@ -37,9 +37,9 @@ holds_within sets p v h =
     elim (cases_lt p (length sets)) [
       | inl lt ↦ lt
       | inr past ↦ (
-        let f = λ (t : BTreeSet ℕ). contains nat_cmp t v in
-        let long : length (map f sets) ≤ p = omega (arith, past, length-map sets f) in
-        absurd (both_ways (holds sets p v) (get_or_past (map f sets) p false long) h))
+          let f = λ (t : BTreeSet ℕ). contains nat_cmp t v in
+          let long : length (map f sets) ≤ p = omega (arith, past, length-map sets f) in
+          absurd (both_ways (holds sets p v) (get_or_past (map f sets) p false long) h))
     ]
 
 pub le_of : (a b : ℕ) → is_gt (nat_cmp a b) ≡ false → a ≤ b
@@ -53,10 +53,12 @@ le_of a b h = go (nat_cmp a b) refl h
 -- the first key of the set at p is the least that it has
 pub first_is_least : (pairs : List (ℕ × ℕ)) (sets : List (BTreeSet ℕ)) (low : Option ℕ) (p u : ℕ) (s : BTreeSet ℕ) → p < length sets → s ≡ get_or sets p s → IsAbove pairs low p → contains nat_cmp s u ≡ true
     → ((q : ℕ) → contains nat_cmp s q ≡ true → is_gt (nat_cmp u q) ≡ false) → IsLeast (λ v. IsAbove pairs low p × (holds sets p v ≡ true)) u
-first_is_least pairs sets low p u s lt e above has least =
-    ((above, holds_at sets p u s lt e ∙ has), λ w less h.
-    let le = le_of u w (least w (sym (holds_at sets p w s lt e) ∙ h.1)) in
-    omega (arith, le, less))
+first_is_least pairs sets low p u s lt e above has least = (
+  (above, holds_at sets p u s lt e ∙ has),
+  λ w less h.
+      let le = le_of u w (least w (sym (holds_at sets p w s lt e) ∙ h.1)) in
+      omega (arith, le, less),
+)
 
 -- v stands in a set above, before n
 abbrev pub HeldBefore : List (ℕ × ℕ) → List (BTreeSet ℕ) → Option ℕ → ℕ → ℕ → Type 0

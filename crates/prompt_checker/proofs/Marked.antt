@@ -1,6 +1,6 @@
 -- The marks of a line, vertex by vertex.
-use Rattle.std.proofs.Common.{◌≡◌, ℕ, ◌+◌, ◌<◌, ◌≤◌, Bool, true, false, List, [], ◌∷◌, ◌++◌, length, take, get_or, set, refl, sym, ap, ◌∙◌, subst, inl, inr, arith, ◌⊎◌}
-use Rattle.std.specs.Prelude.{Option, None, Some}
+use Rattle.std.proofs.Common.{◌≡◌, ℕ, ◌+◌, ◌<◌, ◌≤◌, Bool, true, false, List, [], ◌∷◌, ◌++◌, length, take, get_or, set, refl, sym, ap, ◌∙◌, subst, inl, inr, arith}
+use Rattle.std.specs.Prelude.{None, Some}
 use Rattle.std.proofs.lemmas.Bool.{cases_lt, both_ways}
 use Rattle.std.proofs.lemmas.List.{length-set, take_more}
 use Rattle.std.proofs.Math.Seq.{take-length}
@@ -31,8 +31,8 @@ new_more marks line now next i lt before free e = record {
   new = λ k small. elim (cases_lt k i) [
     | inl early ↦ before.new k early
     | inr late ↦ (
-      let same : i ≡ k = omega (arith, small, late) in
-      subst (λ j. WasMarked marks line j (get_or line j 0) → ⊥) same (λ was. both_ways (is_marked now x) free (ap (λ m. is_marked m x) before.are ∙ was)))
+        let same : i ≡ k = omega (arith, small, late) in
+        subst (λ j. WasMarked marks line j (get_or line j 0) → ⊥) same (λ was. both_ways (is_marked now x) free (ap (λ m. is_marked m x) before.are ∙ was)))
   ];
 }
   where

@@ -1,9 +1,9 @@
 -- A schedule has one verdict.
-use Rattle.std.proofs.Common.{◌≡◌, ℕ, ◌+◌, ◌<◌, ◌≤◌, List, length, get_or, refl, sym, ap, ◌∙◌, subst, inl, inr, arith, ◌⊎◌}
+use Rattle.std.proofs.Common.{◌≡◌, ℕ, ◌+◌, ◌<◌, List, get_or, refl, sym, ap, ◌∙◌, subst, inl, inr, arith}
 use Rattle.std.proofs.lemmas.Bool.{cases_lt}
 use Rattle.cost_graph.specs.Graph.{CostGraph, vertex_total}
 use Rattle.std.specs.List.{concat, Contains}
-use Rattle.prompt_checker.specs.Schedule.{step_at, IsPrompt}
+use Rattle.prompt_checker.specs.Schedule.{step_at}
 use Rattle.prompt_checker.specs.Verdict.{rank, IsFirstOf, IsLeast, StoodBefore, LacksParent, IsLeftOut, Overtakes, HasFlaw, IsFlaw, IsVerdict}
 use Rattle.prompt_checker.specs.declared.schedule.FlawKind.{FlawKind}
 use Rattle.prompt_checker.specs.declared.schedule.FlawKind.TheVariants.{EmptyStep, TooWide, Twice, NotReady, IdleCore, Inverted, Unfinished}

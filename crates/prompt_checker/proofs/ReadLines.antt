@@ -1,5 +1,5 @@
 -- What the lines of a schedule's text give.
-use Rattle.std.proofs.Common.{◌≡◌, ◌≢◌, ℕ, zero, suc, ◌+◌, ◌<◌, ◌≤◌, List, [], ◌∷◌, ◌++◌, length, get_or, map, All, Option, Some, None, Result, Ok, Err, IfErr, Bool, true, false, ◌==◌, refl, sym, ap, ◌∙◌, subst, inl, inr, ◌⊎◌, arith, append_assoc, append-nil}
+use Rattle.std.proofs.Common.{◌≡◌, ◌≢◌, ℕ, zero, suc, ◌+◌, ◌<◌, List, [], ◌∷◌, ◌++◌, length, get_or, map, All, Option, Some, None, Result, Ok, Err, IfErr, true, false, ◌==◌, refl, sym, ap, ◌∙◌, subst, inl, inr, ◌⊎◌, arith, append_assoc, append-nil}
 use Rattle.std.specs.Prelude.{MatchOption}
 use Rattle.std.specs.Result.{IsErrAnd}
 use Rattle.std.proofs.lemmas.Bool.Decides.{nat_tests}
@@ -18,7 +18,7 @@ use Rattle.cost_graph.specs.Graph.{CostGraph, IsGraph, IsVertexAt, first_vertex,
 use Rattle.cost_graph.proofs.Members.{no_member_short, member_head}
 use Rattle.cost_graph.proofs.Threads.{one_path}
 use Rattle.cost_graph.proofs.Ends.{thread_within}
-use Rattle.prompt_checker.specs.ScheduleText.{Name, IsVertexText, IsNamed, IsVertexWord, IsUnknownWord, IsBadWord, IsStepLine, IsBadLine, IsUnknownLine, AreStepLines, IsLineFault, IsFirstFault, HasFault, ReadsOneWay}
+use Rattle.prompt_checker.specs.ScheduleText.{Name, IsVertexText, IsNamed, IsVertexWord, IsUnknownWord, IsBadWord, IsStepLine, IsUnknownLine, AreStepLines, IsLineFault, IsFirstFault, HasFault, ReadsOneWay}
 use Rattle.prompt_checker.specs.Looks.{IsLook, StopsAt}
 use Rattle.prompt_checker.specs.declared.reader.ScheduleFault.{ScheduleFault}
 use Rattle.prompt_checker.specs.declared.reader.ScheduleFault.TheVariants.{BadText, UnknownVertex, OutOfMemory}
@@ -74,10 +74,13 @@ missing-word g (w ∷ words) (r ∷ looks) (suc k) p lt e =
     (found.0, (suc at.0, later, at.2), found.2)
 
 pub unknown-line : (g : CostGraph) (line : List ℕ) (looks : List (Option ℕ)) → Pairwise (IsLook g) (words_of line) looks → Contains looks None → IsUnknownLine g line
-unknown-line g line looks p c = (λ word at bad.
-    let look = pairs-at (IsLook g) (words_of line) looks at.0 word p at.1 in
-    let named = look-text g word look.0 (subst (λ w. IsLook g w look.0) at.2 look.1) in
-    bad named.0 named.1, missing-word g (words_of line) looks c.0 p c.1 c.2)
+unknown-line g line looks p c = (
+  λ word at bad.
+      let look = pairs-at (IsLook g) (words_of line) looks at.0 word p at.1 in
+      let named = look-text g word look.0 (subst (λ w. IsLook g w look.0) at.2 look.1) in
+      bad named.0 named.1,
+  missing-word g (words_of line) looks c.0 p c.1 c.2,
+)
 
 -- a step's line is not at fault
 word-vertex : (g : CostGraph) (line step word : List ℕ) → IsStepLine g line step → Contains (words_of line) word → (v : ℕ) × IsVertexWord g word v

@@ -1,5 +1,5 @@
 -- The text of a schedule: a step on each line, and the first line at fault.
-use Rattle.std.specs.Prelude.{◌≡◌, ℕ, ◌+◌, List, [], ◌∷◌, ◌++◌, length}
+use Rattle.std.specs.Prelude.{◌≡◌, ℕ, ◌+◌, List, ◌∷◌, ◌++◌, length}
 use Rattle.std.specs.List.{Contains}
 use Rattle.inputs_text.specs.PathText.{Pairwise, IsPartText, IsPathText}
 use Rattle.inputs_text.specs.InputLines.{IsCut, words_of}

@@ -1,5 +1,5 @@
 -- What a step shows, by the marks of the vertices that ran before it and by the sets of those that are ready.
-use Rattle.std.specs.Prelude.{◌≡◌, ℕ, ◌<◌, ◌≤◌, List, [], length, take, get_or, map, min, Option, None, Some, Bool, true, false}
+use Rattle.std.specs.Prelude.{◌≡◌, ℕ, ◌<◌, ◌≤◌, List, length, take, get_or, map, min, Option, None, Some, Bool, true, false}
 use Rattle.std.specs.BTreeSet.{BTreeSet, contains}
 use Rattle.std.specs.Ordering.{nat_cmp}
 use Rattle.priority_order.specs.Order.{IsBelow}

@@ -40,11 +40,7 @@ impl From<AllocError> for ScheduleFault {
 
 /// Reads a schedule: a step on each line, its vertices with spaces, tabs or carriage returns between and perhaps
 /// around. A vertex is its thread's path, a colon and its number in the thread. The first line at fault decides.
-pub fn read_schedule(
-    alloc: Global,
-    text: &[u8],
-    graph: &Graph,
-) -> Result<Schedule, ScheduleFault>
+pub fn read_schedule(alloc: Global, text: &[u8], graph: &Graph) -> Result<Schedule, ScheduleFault>
     ensures ok { IfOk result (λ s. AreStepLines graph.now (lines text.now) (steps_of s)) }
     ensures within { IfOk result (λ s. All (λ step. All (λ v. v < vertex_total graph.now) step) (steps_of s)) }
     ensures fault { IfErr result (HasFault graph.now (lines text.now)) }
@@ -108,11 +104,7 @@ fn look_up_all(
 }
 
 // The word's vertex, if the graph has it; None where the word has not the form of a vertex.
-fn look_up(
-    alloc: Global,
-    graph: &Graph,
-    word: &[u8],
-) -> Result<Option<Option<u32>>, AllocError>
+fn look_up(alloc: Global, graph: &Graph, word: &[u8]) -> Result<Option<Option<u32>>, AllocError>
     ensures { IfOk result (λ r. MatchOption r (IsBadWord word.now) (IsLook graph.now word.now)) }
 {
     let Some((path, number)) = read_vertex(alloc, word)? else {

@@ -1,12 +1,11 @@
-use Rattle.std.proofs.Common.{◌≡◌, ◌==◌, ◌⊎◌, ◌↔◌, ℕ, ◌+◌, ◌<◌, ◌≤◌, List, [], Bool, true, false, Some, None, length, get_or, replicate, refl, sym, ap, ◌∙◌, subst, arith, rules}
+use Rattle.std.proofs.Common.{◌≡◌, ◌==◌, ◌⊎◌, ◌↔◌, ℕ, ◌+◌, ◌<◌, List, [], true, false, Some, None, length, get_or, replicate, refl, sym, ap, ◌∙◌, subst, arith, rules}
 use Rattle.std.proofs.lemmas.Grind.{common_steps}
-use Rattle.std.specs.List.{All, Contains, filter, range_with_len}
+use Rattle.std.specs.List.{All, Contains, range_with_len}
 use Rattle.std.specs.declared.vec.Vec.{Vec}
 use Rattle.std.specs.declared.alloc.Global.{Global}
 use Rattle.std.proofs.lemmas.List.Elements.{All-filter, All-contains, Contains-get_or}
-use Rattle.cost_graph.specs.declared.graph.Thread.{Thread}
 use Rattle.cost_graph.specs.Graph.{CostGraph, vertex_total, vertex_priority, parents_at, IsVertexBelow}
-use Rattle.cost_graph.specs.Marks.{freed_by, marks_after, IsSeen}
+use Rattle.cost_graph.specs.Marks.{freed_by, marks_after}
 use Rattle.cost_graph.proofs.Grown.{list_at, lists_length}
 use Rattle.cost_graph.proofs.ReadyNext.{freed_is, edge_in}
 use Rattle.cost_graph.proofs.Visits.{numbers_below}
@@ -20,7 +19,7 @@ use Rattle.prompt_checker.specs.declared.schedule.Verdict.{Verdict}
 use Rattle.prompt_checker.specs.declared.schedule.Verdict.TheVariants.{Prompt, Flaw}
 use Rattle.prompt_checker.specs.declared.schedule.FlawKind.TheVariants.{Unfinished}
 use Rattle.prompt_checker.proofs.One.{verdict_one}
-use Rattle.prompt_checker.proofs.Judging.{judging_start, judging_next, broken_verdict, unfair_verdict, missing_verdict, prompt_verdict, sources_of}
+use Rattle.prompt_checker.proofs.Judging.{judging_start, judging_next, broken_verdict, unfair_verdict, missing_verdict, prompt_verdict}
 use Rattle.prompt_checker.proofs.checker.judge.Goals as goal
 
 -- the line of a step, as indexing gives it
@@ -102,7 +101,7 @@ returns-in-Some c =
     let at = line_is s i c.index-line.result.now lt c.index-line.ensures in
     let h = shows g c.args.order.now.pairs c.args.cores (steps_of s) (Flaw (record { step = i + 1; kind = c.in-Some.kind })) c.flaw_at.result c.flaw_at.ensures
     (broken_verdict g c.args.order.now.pairs (length c.args.order.now.names) c.args.cores (steps_of s) i c.loop-i.stood.items c.loop-i.marks.items c.loop-i.seen.items c.loop-i.ready.items c.loop-i.invariant (small_steps s (vertex_total g) c.requires.vertices)
-        c.in-Some.kind (in_steps s i lt) (subst (λ l. IsBroken g c.args.cores c.loop-i.marks.items l (Some c.in-Some.kind)) (sym at) c.in-Some.ensures.flaw)) in
+    c.in-Some.kind (in_steps s i lt) (subst (λ l. IsBroken g c.args.cores c.loop-i.marks.items l (Some c.in-Some.kind)) (sym at) c.in-Some.ensures.flaw)) in
     record { verdict = h.verdict; only = h.only }
 
 pub returns-in-Some-unfair : goal.returns-in-Some-unfair
@@ -116,9 +115,9 @@ returns-in-Some-unfair c =
     let left : AreLeft g c.loop-i.ready.items c.unfair.new.ready.items c.index-line.result.now.items = record { are = c.unfair.ensures.held } in
     let h = shows g pairs c.args.cores (steps_of s) (Flaw (record { step = i + 1; kind = c.in-Some-unfair.kind })) c.flaw_at-in-Some-unfair.result c.flaw_at-in-Some-unfair.ensures
     (unfair_verdict g pairs (length c.args.order.now.names) c.args.cores (steps_of s) i c.loop-i.stood.items c.loop-i.marks.items c.loop-i.seen.items c.loop-i.ready.items c.loop-i.invariant (small_steps s (vertex_total g) c.requires.vertices)
-        c.in-Some-unfair.kind c.unfair.new.ready.items (in_steps s i lt) (subst (AreLeft g c.loop-i.ready.items c.unfair.new.ready.items) (sym at) left)
-        (subst (λ l. IsBroken g c.args.cores c.loop-i.marks.items l None) (sym at) c.in_default.ensures.flaw)
-        (subst (λ l. IsUnfair g pairs c.args.cores c.unfair.new.ready.items l (Some c.in-Some-unfair.kind)) (sym at) c.in-Some-unfair.ensures.flaw)) in
+    c.in-Some-unfair.kind c.unfair.new.ready.items (in_steps s i lt) (subst (AreLeft g c.loop-i.ready.items c.unfair.new.ready.items) (sym at) left)
+    (subst (λ l. IsBroken g c.args.cores c.loop-i.marks.items l None) (sym at) c.in_default.ensures.flaw)
+    (subst (λ l. IsUnfair g pairs c.args.cores c.unfair.new.ready.items l (Some c.in-Some-unfair.kind)) (sym at) c.in-Some-unfair.ensures.flaw)) in
     record { verdict = h.verdict; only = h.only }
 
 pub add_ready-requires-in-loop-i-clause-vertices : goal.add_ready-requires-in-loop-i-clause-vertices
@@ -169,9 +168,9 @@ returns-in-Some-first_missing c =
     let end : i ≡ length (steps_of s) = omega (arith, e, lists_length s.steps.items) in
     let whole : i ≡ c.len.result = omega (arith, e, c.len.ensures) in
     let v = missing_verdict g pairs (length c.args.order.now.names) c.args.cores (steps_of s) i c.loop-i.stood.items c.loop-i.marks.items c.loop-i.seen.items c.loop-i.ready.items c.loop-i.invariant (small_steps s (vertex_total g) c.requires.vertices)
-        c.in-Some-first_missing.vertex end c.in-Some-first_missing.ensures in
+    c.in-Some-first_missing.vertex end c.in-Some-first_missing.ensures in
     let h = shows g pairs c.args.cores (steps_of s) (Flaw (record { step = c.len.result + 1; kind = Unfinished c.in-Some-first_missing.vertex })) c.flaw_at-in-Some-first_missing.result c.flaw_at-in-Some-first_missing.ensures
-        (subst (λ n. IsVerdict g (IsVertexBelow g pairs) c.args.cores (steps_of s) (Flaw (record { step = n + 1; kind = Unfinished c.in-Some-first_missing.vertex }))) whole v) in
+    (subst (λ n. IsVerdict g (IsVertexBelow g pairs) c.args.cores (steps_of s) (Flaw (record { step = n + 1; kind = Unfinished c.in-Some-first_missing.vertex }))) whole v) in
     record { verdict = h.verdict; only = h.only }
 
 pub returns : goal.returns
@@ -183,6 +182,6 @@ returns c =
     let e : i ≡ length s.steps.items = omega (arith, c.loop-i-test.false, c.len-i-end.ensures, c.loop-i.auto.i-end) in
     let end : i ≡ length (steps_of s) = omega (arith, e, lists_length s.steps.items) in
     let v = prompt_verdict g pairs (length c.args.order.now.names) c.args.cores (steps_of s) i c.loop-i.stood.items c.loop-i.marks.items c.loop-i.seen.items c.loop-i.ready.items c.loop-i.invariant (small_steps s (vertex_total g) c.requires.vertices)
-        end c.in-None.ensures in
+    end c.in-None.ensures in
     let h = shows g pairs c.args.cores (steps_of s) Prompt Prompt refl v in
     record { verdict = h.verdict; only = h.only }

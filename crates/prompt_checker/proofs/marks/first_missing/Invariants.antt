@@ -1,4 +1,4 @@
-use Rattle.std.proofs.Common.{◌≡◌, ℕ, ◌<◌, length, false}
+use Rattle.std.proofs.Common.{◌≡◌, ℕ, ◌<◌, false}
 use Rattle.cost_graph.specs.Marks.{is_marked}
 use Rattle.prompt_checker.proofs.marks.first_missing.Given as goal
 

@@ -1,6 +1,5 @@
-use Rattle.std.proofs.Common.{◌≡◌, ◌<◌, List, Bool, length, sym, ap, ◌∙◌, subst}
+use Rattle.std.proofs.Common.{List, Bool, ap, ◌∙◌}
 use Rattle.std.specs.List.{list_all}
-use Rattle.cost_graph.specs.Graph.{parents_at}
 use Rattle.cost_graph.specs.Marks.{is_marked}
 use Rattle.cost_graph.proofs.Visits.{parents_below}
 use Rattle.prompt_checker.proofs.marks.is_ready.Goals as goal

@@ -1,4 +1,4 @@
-use Rattle.std.proofs.Common.{◌≡◌, ◌+◌, ◌<◌, length, sym, ◌∙◌, arith}
+use Rattle.std.proofs.Common.{◌≡◌, ◌+◌, length, sym, ◌∙◌, arith}
 use Rattle.cost_graph.proofs.Grown.{lists_length}
 use Rattle.priml_io.specs.Lines.{lines}
 use Rattle.prompt_checker.specs.Read.{lists}

@@ -1,4 +1,4 @@
-use Rattle.std.proofs.Common.{◌≡◌, ◌+◌, ◌++◌, ◌∷◌, [], length, ap, ◌∙◌, arith, refl}
+use Rattle.std.proofs.Common.{◌∷◌, [], length, ap, arith}
 use Rattle.std.proofs.lemmas.List.{length-append}
 use Rattle.prompt_checker.proofs.Held.{empty_push}
 use Rattle.prompt_checker.proofs.ready.empty_sets.Goals as goal

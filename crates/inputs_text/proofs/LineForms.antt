@@ -70,7 +70,7 @@ line-one line (Some x) None a b = absurd (nothing-apart line x.0 x.1 b a)
 line-one line (Some x) (Some y) a b = ap Some (given-one line x y a b)
 
 -- a line that says something and has no colon is bad
-no-colon : (before after : List ℕ) → All (λ b. b ≢ 58) (before ++ 58 ∷ after) → ⊥
+pub no-colon : (before after : List ℕ) → All (λ b. b ≢ 58) (before ++ 58 ∷ after) → ⊥
 no-colon [] after p = All-head (λ b. b ≢ 58) 58 after p refl
 no-colon (b ∷ before) after p = no-colon before after (All-tail (λ b. b ≢ 58) b (before ++ 58 ∷ after) p)
 

@@ -7,7 +7,7 @@ use Rattle.priml_io.specs.Words.{IsDigit}
 use Rattle.inputs_text.specs.PathText.{Pairwise, between_dots, IsPartText, IsPathText}
 use Rattle.inputs_text.proofs.Pairs.{pairs-one, pairs-length}
 
-part-one : (text : List ℕ) (n m : ℕ) → IsPartText text n → IsPartText text m → n ≡ m
+pub part-one : (text : List ℕ) (n m : ℕ) → IsPartText text n → IsPartText text m → n ≡ m
 part-one text n m a b = a.value ∙ sym b.value
 
 empty-part : (parts : List (List ℕ)) (path : List ℕ) → Pairwise IsPartText ([] ∷ parts) path → ⊥

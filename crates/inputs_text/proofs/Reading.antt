@@ -154,12 +154,12 @@ pub inputs-clash : (ls : List (List ℕ)) (all : List (List ℕ × List ℤ)) (f
 inputs-clash ls all f i h = fault-clash h.before h.line h.after h.lists all (length h.before + 1) f h.right (rw h.is at i) h.wrong
 
 -- two places of one list: the same, or one before the other
-data Places {A : Type 0} (a : List A) (x : A) (c : List A) (y : A) : Type 0 where
+pub data Places {A : Type 0} (a : List A) (x : A) (c : List A) (y : A) : Type 0 where
   same_place : a ≡ c → x ≡ y → Places a x c y
   comes_before : (m : List A) → c ≡ a ++ x ∷ m → Places a x c y
   comes_after : (m : List A) → a ≡ c ++ y ∷ m → Places a x c y
 
-places : {A : Type 0} (a : List A) (x : A) (b c : List A) (y : A) (d : List A) → a ++ x ∷ b ≡ c ++ y ∷ d → Places a x c y
+pub places : {A : Type 0} (a : List A) (x : A) (b c : List A) (y : A) (d : List A) → a ++ x ∷ b ≡ c ++ y ∷ d → Places a x c y
 places [] x b [] y d e = let s : x ≡ y = cc in same_place refl s
 places [] x b (z ∷ c) y d e = let s : z ≡ x = cc in comes_before c (ap (λ v. v ∷ c) s)
 places (w ∷ a) x b [] y d e = let s : w ≡ y = cc in comes_after a (ap (λ v. v ∷ a) s)

@@ -6,4 +6,5 @@ mod line;
 mod path;
 
 pub use inputs::{InputFault, read_inputs};
-pub use path::read_path;
+pub use line::cut;
+pub use path::{read_part, read_path};

@@ -65,8 +65,8 @@ fn is_blank(byte: u8) -> bool
     byte == b' ' || byte == b'\t' || byte == b'\r'
 }
 
-/// What stands before the first colon, and what after it.
-fn cut(line: &[u8]) -> Option<(&[u8], &[u8])>
+/// What stands before the first colon, and what after it; None where there is no colon.
+pub fn cut(line: &[u8]) -> Option<(&[u8], &[u8])>
     ensures { MatchOption result (All (λ b. b ≢ 58) line.now) (λ p. IsCut line.now p.0.now p.1.now) }
 {
     for i in 0..line.len() {

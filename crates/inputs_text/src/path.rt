@@ -44,7 +44,9 @@ fn read_parts(alloc: Global, text: &[u8]) -> Result<Option<Vec<u32>>, AllocError
     Ok(Some(parts))
 }
 
-fn read_part(text: &[u8]) -> Option<u32>
+/// Reads a part of a path: a number below 2 to the 32, in decimal digits without leading zeros. None where the text is
+/// no part.
+pub fn read_part(text: &[u8]) -> Option<u32>
     ensures { MatchOption result ((n : ℕ) → ¬ IsPartText text.now n) (IsPartText text.now) }
 {
     if !is_digits(text) {

@@ -11,7 +11,7 @@ mod words;
 
 pub use ends::{Failed, Sink, Source};
 pub use memory::{MemSink, MemSource};
-pub use sections::{SectionFault, Sections, split};
+pub use sections::{SectionFault, Sections, next_line, split};
 pub use standard::{StdSink, StdSource};
 pub use steady::{SteadySink, SteadySource};
 pub use whole::{ReadStop, WriteStop, read_all, write_all};

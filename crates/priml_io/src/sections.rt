@@ -99,7 +99,7 @@ fn goes_on(text: &[u8]) -> bool
 }
 
 /// The first line without its line feed, and the text after it.
-fn next_line(text: &[u8]) -> (&[u8], &[u8])
+pub fn next_line(text: &[u8]) -> (&[u8], &[u8])
     ensures row { (bytes : List ℕ) × IsRow bytes result.0.now result.1.now × (text.now ≡ bytes ++ result.1.now) }
     ensures shorter { 0 < length text.now → length result.1.now < length text.now }
 {

@@ -1,5 +1,5 @@
 -- Valid and prompt schedules. A schedule is a list of steps, each a list of vertices; steps are counted from 0 here.
-use Rattle.std.specs.Prelude.{◌≡◌, ℕ, ◌<◌, ◌≤◌, ◌↔◌, List, [], length, take, get_or, nat_eq}
+use Rattle.std.specs.Prelude.{ℕ, ◌<◌, ◌≤◌, ◌↔◌, List, [], length, take, get_or, nat_eq}
 use Rattle.std.specs.List.{concat, Contains, IsDistinct}
 use Rattle.cost_graph.specs.Graph.{CostGraph, Edge, vertex_total}
 use Rattle.cost_graph.specs.Marks.{IsReady}

@@ -1,5 +1,5 @@
 -- The verdict on a schedule: its first flaw, or none.
-use Rattle.std.specs.Prelude.{◌≡◌, ℕ, ◌+◌, ◌<◌, List, [], length, take, get_or, ◌++◌}
+use Rattle.std.specs.Prelude.{◌≡◌, ℕ, ◌+◌, ◌<◌, List, length, take, get_or, ◌++◌}
 use Rattle.std.specs.List.{concat, Contains}
 use Rattle.cost_graph.specs.Graph.{CostGraph, vertex_total, Edge}
 use Rattle.cost_graph.specs.Marks.{IsReady}

@@ -5,7 +5,7 @@ pub struct Schedule {
 }
 
 /// What is wrong at a step.
-#[derive(Clone, Copy, Debug)]
+#[derive(Clone, Copy, Debug, PartialEq, Eq)]
 pub enum FlawKind {
     /// The step has no vertex.
     EmptyStep,
@@ -24,14 +24,14 @@ pub enum FlawKind {
 }
 
 /// A flaw of a schedule: its step, counted from 1, and its kind.
-#[derive(Clone, Copy, Debug)]
+#[derive(Clone, Copy, Debug, PartialEq, Eq)]
 pub struct Flaw {
     pub step: u64,
     pub kind: FlawKind,
 }
 
 /// Whether a schedule is prompt, or its first flaw.
-#[derive(Clone, Copy, Debug)]
+#[derive(Clone, Copy, Debug, PartialEq, Eq)]
 pub enum Verdict {
     Prompt,
     Flaw(Flaw),

@@ -3,3 +3,4 @@ pub mod Keys
 pub mod Going
 pub mod Prompt
 pub mod Unique
+pub mod OwnLanes

@@ -62,7 +62,7 @@ distinct_step lanes (x ∷ xs) s lane (suc n) =
     apart (y ∷ ys) sub = (ne_eqb x.1 y.1 (other y (sub y (member_head y ys))), apart ys (λ k c. sub k (member_tail y ys k c)))
 
 module _ (g : CostGraph) (lanes : List ℕ) (cores : ℕ) (steps : List (List ℕ)) (plan : IsPlan g lanes cores steps) (shape : IsGraph g) (acyclic : HasNoCycle (Edge g))
-    (below : ℕ → ℕ → Type 0) (lane_below : (v u : ℕ) → below v u → get_or lanes u 0 < get_or lanes v 0) where
+    (below : ℕ → ℕ → Type 0) (lane_below : (v u : ℕ) → v < vertex_total g → u < vertex_total g → below v u → get_or lanes u 0 < get_or lanes v 0) where
   ready_at : (i v : ℕ) → i < length steps → Contains (step_at steps i) v → IsReady g (vertices_before steps i) v
   ready_at i v lt c =
       let p = plan.each i lt in
@@ -143,5 +143,5 @@ module _ (g : CostGraph) (lanes : List ℕ) (cores : ℕ) (steps : List (List �
         let lane = ((p.ready.are k.0).0 (in_take p.keys cores k.0 k.1)).1 in
         let le = lanes_in_order k.0 (get_or lanes u 0, u) (sorted_apart p.keys cores k.0 (get_or lanes u 0, u) p.ready.rising k.1 (left_key i u lt r out)) in
         let here : k.0.0 ≡ get_or lanes v 0 = lane ∙ ap (λ x. get_or lanes x 0) k.2 in
-        omega (arith, le, here, lane_below v u b);
+        omega (arith, le, here, lane_below v u (ready_at i v lt c).vertex r.vertex b);
   }

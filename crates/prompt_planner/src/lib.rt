@@ -1,6 +1,7 @@
 //! The canonical plan of a cost graph.
 #![tactic(auto)]
 
+mod lanes;
 mod planner;
 
-pub use planner::plan_by_lanes;
+pub use planner::{plan, plan_by_lanes};

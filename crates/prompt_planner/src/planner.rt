@@ -1,12 +1,15 @@
 ghost use Rattle.std.specs.Prelude.{◌≡◌, ℕ, ◌<◌, ◌≤◌, ◌↔◌, ◌⊎◌, length, List, map, take, drop, OnOk, IfOk, slice_index};
 ghost use Rattle.std.specs.List.{All, Contains};
+ghost use Rattle.cost_graph.specs.declared.graph.Thread.{Thread as TheThread};
 ghost use Rattle.cost_graph.specs.Graph.{vertex_total, IsAcyclic, IsVertexBelow};
 ghost use Rattle.prompt_checker.specs.Plan.{IsPlan};
 ghost use Rattle.prompt_checker.specs.Schedule.{IsPrompt};
 ghost use Rattle.prompt_checker.specs.Read.{steps_of};
-ghost use Rattle.prompt_planner.specs.Lanes.{LanesFit};
+ghost use Rattle.prompt_planner.specs.Lanes.{LanesFit, IsCanonical};
 
+use crate::lanes::lanes_of;
 use cost_graph::{Graph, run_step, sources};
+use priority_order::Order;
 use prompt_checker::Schedule;
 use std::alloc::{AllocError, Global};
 use std::collections::BTreeSet;
@@ -73,4 +76,19 @@ pub fn plan_by_lanes(
         steps.push(step)?;
     }
     Ok(Schedule { steps })
+}
+
+/// The canonical plan on so many cores, which are at least 1: at each step the first ready vertices, by the lane of
+/// their priority and then by number, until none is left. The graph has no cycle, and the priorities of its threads
+/// are below the order's count. The plan is prompt.
+pub fn plan(alloc: Global, graph: &Graph, order: &Order, cores: u32) -> Result<Schedule, AllocError>
+    requires acyclic { IsAcyclic graph.now }
+    requires cores { 1 ≤ cores }
+    requires priorities { All (λ (t : TheThread). t.priority < length order.now.names) graph.now.threads }
+    ensures plan { IfOk result (λ s. IsCanonical graph.now order.now.pairs (length order.now.names) cores (steps_of s)) }
+    ensures unique { IfOk result (λ s. (other : List (List ℕ)) → IsCanonical graph.now order.now.pairs (length order.now.names) cores other → other ≡ steps_of s) }
+    ensures prompt { IfOk result (λ s. IsPrompt graph.now (IsVertexBelow graph.now order.now.pairs) cores (steps_of s)) }
+{
+    let lanes = lanes_of(alloc, graph, order)?;
+    plan_by_lanes(alloc, graph, &lanes, cores)
 }

@@ -1,0 +1,6 @@
+use Rattle.std.proofs.Common.{ℕ, ◌<◌, get_or}
+use Rattle.prompt_checker.specs.Watch.{IsEarly}
+use Rattle.prompt_checker.proofs.marks.first_early.Given as goal
+
+abbrev pub invariant-loop-vertex : goal.invariant-loop-vertex
+invariant-loop-vertex l = (k : ℕ) → k < l.vertex-index → IsEarly l.graph l.marks.items k (get_or l.line.items k 0) → ⊥

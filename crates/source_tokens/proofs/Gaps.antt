@@ -1,10 +1,9 @@
 -- What stands before a token.
 use Rattle.std.proofs.Common.{◌≡◌, ℕ, ◌<◌, List, [], ◌∷◌, Bool, true, false, length, drop, get_or, refl, sym, ap, ◌∙◌, arith}
-use Rattle.std.specs.Prelude.{◌==◌}
 use Rattle.std.specs.List.{prefix_len}
 use Rattle.std.proofs.Math.Numerals.{one-add}
 use Rattle.std.proofs.lemmas.Bool.Decides.{nat_tests}
-use Rattle.source_tokens.specs.Lexemes.{is_separator, is_passed, keeps_comment, behind, begins}
+use Rattle.source_tokens.specs.Lexemes.{is_separator, is_passed, keeps_comment, begins}
 use Rattle.source_tokens.proofs.Longest.{run_stops}
 
 passed : (b : ℕ) → is_separator b ≡ true → is_passed false b ≡ true

@@ -4,3 +4,4 @@ pub mod Going
 pub mod Prompt
 pub mod Unique
 pub mod OwnLanes
+pub mod Within

@@ -88,6 +88,7 @@ pub fn plan(alloc: Global, graph: &Graph, order: &Order, cores: u32) -> Result<S
     ensures plan { IfOk result (λ s. IsCanonical graph.now order.now.pairs (length order.now.names) cores (steps_of s)) }
     ensures unique { IfOk result (λ s. (other : List (List ℕ)) → IsCanonical graph.now order.now.pairs (length order.now.names) cores other → other ≡ steps_of s) }
     ensures prompt { IfOk result (λ s. IsPrompt graph.now (IsVertexBelow graph.now order.now.pairs) cores (steps_of s)) }
+    ensures within { IfOk result (λ s. All (λ step. All (λ v. v < vertex_total graph.now) step) (steps_of s)) }
 {
     let lanes = lanes_of(alloc, graph, order)?;
     plan_by_lanes(alloc, graph, &lanes, cores)

@@ -1,10 +1,12 @@
-use Rattle.std.proofs.Common.{◌≡◌, ℕ, List, length, subst, sym, ap, ◌∙◌}
+use Rattle.std.proofs.Common.{◌≡◌, ◌<◌, ℕ, List, length, subst, sym, ap, ◌∙◌}
 use Rattle.std.proofs.lemmas.Result.{IfOk-weaker}
-use Rattle.cost_graph.specs.Graph.{IsAcyclic, IsVertexBelow}
+use Rattle.std.specs.List.{All}
+use Rattle.cost_graph.specs.Graph.{vertex_total, IsAcyclic, IsVertexBelow}
 use Rattle.prompt_checker.specs.Plan.{IsPlan}
 use Rattle.prompt_checker.specs.Schedule.{IsPrompt}
 use Rattle.prompt_checker.specs.Read.{steps_of}
 use Rattle.prompt_planner.specs.Lanes.{LanesFit, IsCanonical}
+use Rattle.prompt_planner.proofs.Within.{valid_within}
 use Rattle.prompt_planner.proofs.planner.plan.Goals as goal
 
 pub plan_by_lanes-requires-clause-lanes : goal.plan_by_lanes-requires-clause-lanes
@@ -33,3 +35,11 @@ returns-clause-prompt c =
     IfOk-weaker c.plan_by_lanes.result (λ s. (ps : List (ℕ × ℕ)) → IsAcyclic g → LanesFit g ps c.deref.result.now → IsPrompt g (IsVertexBelow g ps) c.args.cores (steps_of s))
     (λ s. IsPrompt g (IsVertexBelow g pairs) c.args.cores (steps_of s))
     (λ s h. h pairs c.requires.acyclic (subst (LanesFit g pairs) (sym c.deref.ensures.value) c.in_ok-lanes.ensures.fit)) c.plan_by_lanes.ensures.prompt
+
+pub returns-clause-within : goal.returns-clause-within
+returns-clause-within c =
+    let g = c.args.graph.now in
+    let pairs = c.args.order.now.pairs in
+    IfOk-weaker c.plan_by_lanes.result (λ s. (ps : List (ℕ × ℕ)) → IsAcyclic g → LanesFit g ps c.deref.result.now → IsPrompt g (IsVertexBelow g ps) c.args.cores (steps_of s))
+    (λ s. All (λ step. All (λ v. v < vertex_total g) step) (steps_of s))
+    (λ s h. valid_within g c.args.cores (steps_of s) (h pairs c.requires.acyclic (subst (LanesFit g pairs) (sym c.deref.ensures.value) c.in_ok-lanes.ensures.fit)).valid) c.plan_by_lanes.ensures.prompt

@@ -13,6 +13,7 @@ use priml_io::{Command, ReadStop, Source, read_all, read_words, split};
 use priml_syntax::Program;
 use source_reader::read_source;
 use std::alloc::Global;
+use std::mem::forget;
 use type_rules::{TypeStop, check};
 
 /// The greatest length of an input, in bytes.
@@ -73,8 +74,15 @@ fn on_program(alloc: Global, program: Program) -> Reply
     ensures { ReplyIs (OnProgram (read_program program)) result }
 {
     match check(alloc, program) {
-        Ok(_) => done(alloc, b"ok\n"),
-        Err((_, stop)) => not_accepted(stop),
+        // the process ends soon: to free the program node by node takes longer than to check it
+        Ok(checked) => {
+            forget(checked);
+            done(alloc, b"ok\n")
+        }
+        Err((program, stop)) => {
+            forget(program);
+            not_accepted(stop)
+        }
     }
 }
 

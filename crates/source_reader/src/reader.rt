@@ -27,6 +27,7 @@ use source_grammar::{ParseStop, parse};
 use source_tokens::lexer::{Lexed, lex};
 use source_tokens::token::{Stop, Token};
 use std::alloc::{AllocError, Global};
+use std::mem::forget;
 
 /// Why a text gives no program. Each but the last has the offset of a byte. The tokens of the whole text are looked at first, and of their faults the
 /// earliest place decides; only where they are those of a program, names and limits are. At one place the smaller number of the kind decides.
@@ -68,7 +69,10 @@ pub fn read_source(alloc: Global, text: &[u8]) -> Result<Program, SourceFault>
     ensures refused { IfErr result (Refuses text.now) }
 {
     let written = tree(alloc, text)?;
-    program(alloc, &written.names, &written.raw)
+    let read = program(alloc, &written.names, &written.raw);
+    // the process ends soon: to free the tree node by node takes longer than to resolve it
+    forget(written);
+    read
 }
 
 // A text as a tree over its distinct names. Its tokens are gone.

@@ -1,4 +1,4 @@
 use Rattle.priml.proofs.answer.on_program.Goals as goal
 
-pub returns : goal.returns
-returns c = c.not_accepted.ensures _ c.in-Err.ensures.fault
+pub returns-in-Err : goal.returns-in-Err
+returns-in-Err c = c.not_accepted.ensures _ c.in-Err.ensures.fault

@@ -1,4 +1,12 @@
-//! Worked cases through the top call, and the calls of sources and sinks.
+//! Worked cases through the top call, the calls of sources and sinks, and those of the lower crates.
+
+mod copies;
+mod derivations;
+mod inputs;
+mod orders;
+mod sections;
+mod values;
+mod words;
 
 use crate::still::priml_still;
 use priml_io::{MemSink, MemSource, ReadStop, WriteStop, read_all, write_all};
@@ -51,24 +59,10 @@ fn faults_and_limits(rt: HostRuntime) -> Result<(), Fail> {
         (&["check"], IDLE, &[1], &[], 8, b"read fault\n"),
         (&["check"], IDLE, &[], &[1], 9, b"o"),
         (&["check"], INVERSION, &[], &[0], 9, b""),
-        (
-            &["check"],
-            INVERSION,
-            &[],
-            &[19],
-            9,
-            b"type: inversion at ",
-        ),
+        (&["check"], INVERSION, &[], &[19], 9, b"type: inversion at "),
         (&["check"], IDLE, &[0], &[4], 9, b"read"),
         (&[], IDLE, &[0], &[], 2, b"words: no command\n"),
-        (
-            &["check", "1"],
-            IDLE,
-            &[0],
-            &[],
-            2,
-            b"words: wrong count\n",
-        ),
+        (&["check", "1"], IDLE, &[0], &[], 2, b"words: wrong count\n"),
         (
             &["serial", "100"],
             IDLE,
@@ -102,35 +96,151 @@ fn verdicts(rt: HostRuntime) -> Result<(), Fail> {
         (b"", 3, b"source: unexpected at 0\n"),
         (b"priority p; proc f(", 3, b"source: unexpected at 19\n"),
         (b"priority p; @", 3, b"source: bad byte at 12\n"),
-        (b"priority p; priority p; main at p : unit { ret () }", 3, b"source: twice named at 21\n"),
-        (b"priority p; main at q : unit { ret () }", 3, b"source: unknown name at 20\n"),
-        (b"priority p; main at p : int { ret ((((((((((((((((((((((((((((((((((((((((((((((((((((((((((((((((", 3, b"source: too deep at 97\n"),
-        (b"priority a; priority b; priority c; priority d; priority e; priority f; priority g; priority h; priority i; priority j; priority k; priority l; priority m; priority n; priority o; priority p; priority q; main at a : unit { ret () }", 3, b"source: too many priorities at 201\n"),
-        (b"priority p; main at p : int { h <- spawn[p] { ret 9223372036854775808 }; x <- sync h; ret x }", 3, b"source: bad number at 50\n"),
-        (b"priority p; main at p : int { ret 1 }\n===input\n", 5, b"section: unknown at line 2\n"),
-        (b"@\n===inputs\n===inputs \n", 5, b"section: twice at line 3\n"),
-        (b"priority p; main at p : int { ret 1 }\n===inputs\nno line of inputs\n===schedule\r\n", 0, b"ok\n"),
-        (b"priority a; priority b; main at a : int { h <- spawn[b] { ret 1 }; x <- sync h; ret x }", 4, b"type: inversion at 72\n"),
-        (b"priority a; priority b; order a < b; order b < a; main at a : unit { ret () }", 4, b"type: cycle at 37\n"),
-        (b"priority a; priority b; proc f[p, q; p <= q](h : thread[q](int)) at p : int { x <- sync h; ret x } main at a : int { h <- spawn[b] { ret 1 }; x <- call f[a, b](h); ret x }", 4, b"type: constraint at 147\n"),
-        (b"priority a; priority b; proc f[p, q; p <= q](h : thread[q](int)) at p : int { x <- sync h; ret x } main at a : int { h <- spawn[a] { ret 1 }; x <- call f[a, a](h); ret x }", 0, b"ok\n"),
-        (b"priority a; priority b; order a < b; proc g[; b <= a](h : thread[a](int)) at b : int { x <- sync h; ret x } main at a : unit { ret () }", 0, b"ok\n"),
-        (b"priority p; main at p : int { ret true }", 4, b"type: mismatch at 12\n"),
-        (b"priority p; main at p : int { x <- ret 1; y <- sync x; ret y }", 4, b"type: not a thread at 47\n"),
-        (b"priority p; proc f() at p : int { ret 1 } main at p : int { x <- call f(1); ret x }", 4, b"type: arity at 65\n"),
-        (b"priority p; priority q; proc f() at q : int { ret 1 } main at p : int { x <- call f(); ret x }", 4, b"type: wrong priority at 77\n"),
-        (b"priority p; main at p : int { a <- ret (1, 1); b <- ret (a, a); c <- ret (b, b); d <- ret (c, c); ret 1 }", 4, b"type: wide at 90\n"),
-        (b"priority p; main at p : int { ret ((1 + true)) }", 4, b"type: mismatch at 35\n"),
-        (b"priority p; proc f(n : int) at p : int { ret n } main at p : int { x <- call f((1 + true), 2); ret x }", 4, b"type: mismatch at 79\n"),
-        (b"priority p; main at p : int { case 1 inl x { ret (1 + ()) } inr y { ret 2 } }", 4, b"type: mismatch at 30\n"),
-        (b"priority p; main at p : int { if 1 { ret (1 + ()) } else { ret 2 } }", 4, b"type: mismatch at 41\n"),
-        (b"priority p; main at p : (unit + int) { a <- input; b <- do { c <- input; ret c }; o <- output 7; ret b }", 0, b"ok\n"),
-        (b"priority p; main at p : bool { x <- ret inl[(bool + int)](not((1 == 2))); case x inl b { ret (b and (3 <= 4)) } inr n { ret ((n % 2) < 1) } }", 0, b"ok\n"),
-        (b"priority p; main at p : int { t <- ret ((1, ()), inr[(unit + int)](5)); ret fst(fst(t)) }", 0, b"ok\n"),
-        (b"priority p; order p < p; main at p : int { ret true }", 4, b"type: cycle at 12\n"),
-        (b"proc f[q; p <= q](h : thread[q](int)) at q : int { x <- sync h; ret x } priority p; priority q; order p < q; main at q : int { h <- spawn[q] { ret 1 }; x <- call f[q](h); ret x }", 0, b"ok\n"),
-        (b"priority p; main at p : int { x <- ret (1 +; ret x }", 3, b"source: unexpected at 43\n"),
-        (b"priority p; main at p : int { ret 1 } main at p : int { ret 1 }", 3, b"source: unexpected at 38\n"),
+        (
+            b"priority p; priority p; main at p : unit { ret () }",
+            3,
+            b"source: twice named at 21\n",
+        ),
+        (
+            b"priority p; main at q : unit { ret () }",
+            3,
+            b"source: unknown name at 20\n",
+        ),
+        (
+            b"priority p; main at p : int { ret ((((((((((((((((((((((((((((((((((((((((((((((((((((((((((((((((",
+            3,
+            b"source: too deep at 97\n",
+        ),
+        (
+            b"priority a; priority b; priority c; priority d; priority e; priority f; priority g; priority h; priority i; priority j; priority k; priority l; priority m; priority n; priority o; priority p; priority q; main at a : unit { ret () }",
+            3,
+            b"source: too many priorities at 201\n",
+        ),
+        (
+            b"priority p; main at p : int { h <- spawn[p] { ret 9223372036854775808 }; x <- sync h; ret x }",
+            3,
+            b"source: bad number at 50\n",
+        ),
+        (
+            b"priority p; main at p : int { ret 1 }\n===input\n",
+            5,
+            b"section: unknown at line 2\n",
+        ),
+        (
+            b"@\n===inputs\n===inputs \n",
+            5,
+            b"section: twice at line 3\n",
+        ),
+        (
+            b"priority p; main at p : int { ret 1 }\n===inputs\nno line of inputs\n===schedule\r\n",
+            0,
+            b"ok\n",
+        ),
+        (
+            b"priority a; priority b; main at a : int { h <- spawn[b] { ret 1 }; x <- sync h; ret x }",
+            4,
+            b"type: inversion at 72\n",
+        ),
+        (
+            b"priority a; priority b; order a < b; order b < a; main at a : unit { ret () }",
+            4,
+            b"type: cycle at 37\n",
+        ),
+        (
+            b"priority a; priority b; proc f[p, q; p <= q](h : thread[q](int)) at p : int { x <- sync h; ret x } main at a : int { h <- spawn[b] { ret 1 }; x <- call f[a, b](h); ret x }",
+            4,
+            b"type: constraint at 147\n",
+        ),
+        (
+            b"priority a; priority b; proc f[p, q; p <= q](h : thread[q](int)) at p : int { x <- sync h; ret x } main at a : int { h <- spawn[a] { ret 1 }; x <- call f[a, a](h); ret x }",
+            0,
+            b"ok\n",
+        ),
+        (
+            b"priority a; priority b; order a < b; proc g[; b <= a](h : thread[a](int)) at b : int { x <- sync h; ret x } main at a : unit { ret () }",
+            0,
+            b"ok\n",
+        ),
+        (
+            b"priority p; main at p : int { ret true }",
+            4,
+            b"type: mismatch at 12\n",
+        ),
+        (
+            b"priority p; main at p : int { x <- ret 1; y <- sync x; ret y }",
+            4,
+            b"type: not a thread at 47\n",
+        ),
+        (
+            b"priority p; proc f() at p : int { ret 1 } main at p : int { x <- call f(1); ret x }",
+            4,
+            b"type: arity at 65\n",
+        ),
+        (
+            b"priority p; priority q; proc f() at q : int { ret 1 } main at p : int { x <- call f(); ret x }",
+            4,
+            b"type: wrong priority at 77\n",
+        ),
+        (
+            b"priority p; main at p : int { a <- ret (1, 1); b <- ret (a, a); c <- ret (b, b); d <- ret (c, c); ret 1 }",
+            4,
+            b"type: wide at 90\n",
+        ),
+        (
+            b"priority p; main at p : int { ret ((1 + true)) }",
+            4,
+            b"type: mismatch at 35\n",
+        ),
+        (
+            b"priority p; proc f(n : int) at p : int { ret n } main at p : int { x <- call f((1 + true), 2); ret x }",
+            4,
+            b"type: mismatch at 79\n",
+        ),
+        (
+            b"priority p; main at p : int { case 1 inl x { ret (1 + ()) } inr y { ret 2 } }",
+            4,
+            b"type: mismatch at 30\n",
+        ),
+        (
+            b"priority p; main at p : int { if 1 { ret (1 + ()) } else { ret 2 } }",
+            4,
+            b"type: mismatch at 41\n",
+        ),
+        (
+            b"priority p; main at p : (unit + int) { a <- input; b <- do { c <- input; ret c }; o <- output 7; ret b }",
+            0,
+            b"ok\n",
+        ),
+        (
+            b"priority p; main at p : bool { x <- ret inl[(bool + int)](not((1 == 2))); case x inl b { ret (b and (3 <= 4)) } inr n { ret ((n % 2) < 1) } }",
+            0,
+            b"ok\n",
+        ),
+        (
+            b"priority p; main at p : int { t <- ret ((1, ()), inr[(unit + int)](5)); ret fst(fst(t)) }",
+            0,
+            b"ok\n",
+        ),
+        (
+            b"priority p; order p < p; main at p : int { ret true }",
+            4,
+            b"type: cycle at 12\n",
+        ),
+        (
+            b"proc f[q; p <= q](h : thread[q](int)) at q : int { x <- sync h; ret x } priority p; priority q; order p < q; main at q : int { h <- spawn[q] { ret 1 }; x <- call f[q](h); ret x }",
+            0,
+            b"ok\n",
+        ),
+        (
+            b"priority p; main at p : int { x <- ret (1 +; ret x }",
+            3,
+            b"source: unexpected at 43\n",
+        ),
+        (
+            b"priority p; main at p : int { ret 1 } main at p : int { ret 1 }",
+            3,
+            b"source: unexpected at 38\n",
+        ),
     ];
     for (number, (input, status, text)) in cases.iter().enumerate() {
         let (got, written) = run(&rt, &["check"], input, &[], &[])?;

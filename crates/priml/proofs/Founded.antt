@@ -68,14 +68,17 @@ later s x is low high = (omega (arith, is.ends, low), omega (arith, is.ends, hig
 
 -- an input that passes the limit
 pub too_long : (r : SourceRun) (bytes : List ℕ) (x : Refusal) → length bytes ≡ input_limit + 1 → Consumes r.before r.after bytes → Refuses 7 input_line x → RepliesRead r (Refused x)
-too_long r bytes x long taken is = (later 7 x is (omega arith) (omega arith), record {
-  answered = answered r.before x.status (line_of x) (λ input e.
-      let p = start r.before r.after bytes input taken e in
-      OnInput.too_long (omega (arith, ap length p.1, length-append bytes p.0, long)) (gives 7 input_line x is));
-  read = read_so r.before r.after (λ input e.
-      let p = start r.before r.after bytes input taken e in
-      inl (omega (arith, ap length p.1, length-append bytes p.0, long), p.2 ∙ ap Some (sym (ap (drop (input_limit + 1)) p.1 ∙ drop_front (input_limit + 1) bytes p.0 long))));
-})
+too_long r bytes x long taken is = (
+  later 7 x is (omega arith) (omega arith),
+  record {
+    answered = answered r.before x.status (line_of x) (λ input e.
+        let p = start r.before r.after bytes input taken e in
+        OnInput.too_long (omega (arith, ap length p.1, length-append bytes p.0, long)) (gives 7 input_line x is));
+    read = read_so r.before r.after (λ input e.
+        let p = start r.before r.after bytes input taken e in
+        inl (omega (arith, ap length p.1, length-append bytes p.0, long), p.2 ∙ ap Some (sym (ap (drop (input_limit + 1)) p.1 ∙ drop_front (input_limit + 1) bytes p.0 long))));
+  },
+)
 
 -- the reply to the program that a text stands for
 pub of_program : (source : List ℕ) (p : Tree) (reply : Reply) → Stands source p → ((q : Tree) → Stands source q → q ≡ p) → ReplyIs (OnProgram p) reply → ReplyIs (OnText source) reply

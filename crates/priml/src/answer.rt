@@ -8,7 +8,9 @@ ghost use Rattle.priml.specs.Answers.{IsCheck, OnSections, OnText, OnProgram};
 ghost use Rattle.priml.specs.Headline.{source_run};
 ghost use Rattle.priml.specs.Reply.{ReplyIs, Replies, RepliesRead, Says};
 
-use crate::refusal::{Reply, input_too_long, not_built, section_refusal, source_refusal, type_refusal, words_refusal};
+use crate::refusal::{
+    Reply, input_too_long, not_built, section_refusal, source_refusal, type_refusal, words_refusal,
+};
 use priml_io::{Command, ReadStop, Source, read_all, read_words, split};
 use priml_syntax::Program;
 use source_reader::read_source;

@@ -36,12 +36,12 @@ read_form (form.Var id) at = tree.var at id
 read_form (form.Int n) at = tree.number at n
 read_form (form.Bool b) at = tree.truth at b
 read_form form.Unit at = tree.nothing at
-read_form (form.Pair' p i a q j b) at = tree.both at (read_form a i) (read_form b j)
+read_form (form.Pair' p i a j b) at = tree.both at (read_form a i) (read_form b j)
 read_form (form.Fst' p i a) at = tree.first at (read_form a i)
 read_form (form.Snd' p i a) at = tree.second at (read_form a i)
-read_form (form.Inl' t p i a) at = tree.left at (read_written t) (read_form a i)
-read_form (form.Inr' t p i a) at = tree.right at (read_written t) (read_form a i)
-read_form (form.Op' op p i a q j b) at = tree.binary at op (read_form a i) (read_form b j)
+read_form (form.Inl' p t i a) at = tree.left at (read_written t) (read_form a i)
+read_form (form.Inr' p t i a) at = tree.right at (read_written t) (read_form a i)
+read_form (form.Op' op p i a j b) at = tree.binary at op (read_form a i) (read_form b j)
 read_form (form.Not' p i a) at = tree.negated at (read_form a i)
 
 abbrev pub read_expr : RawExpr → RawTerm
@@ -64,7 +64,7 @@ abbrev mutual
   read_action (action.Ret e) = tree.ret (read_expr e)
   read_action (action.Spawn' p q b) = tree.spawn p (read_block b)
   read_action (action.Sync h) = tree.sync h
-  read_action (action.Call f ps es) = tree.call f ps.items (map read_expr es.items)
+  read_action (action.Call c) = tree.call c.value.procedure c.value.priorities.items (map read_expr c.value.arguments.items)
   read_action (action.Do' p b) = tree.run (read_block b)
   read_action action.Input = tree.input
   read_action (action.Output e) = tree.output (read_expr e)

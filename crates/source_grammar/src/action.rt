@@ -10,9 +10,9 @@ ghost use Rattle.source_grammar.specs.Stops.{Moves};
 use crate::cursor::{Stop, Tokens};
 use crate::expr::expr;
 use crate::list::listed;
-use crate::raw::{Name, RawAction, RawTail, RawTailForm};
+use crate::raw::{Name, RawAction, RawCall, RawExpr, RawTail, RawTailForm};
 use source_tokens::token::{Sign, Word};
-use std::alloc::Global;
+use std::alloc::{AllocError, Global};
 
 /// An ending that gives a value.
 #[tactic(auto, using(crate::proofs::BlockSteps::steps, crate::proofs::BlockForms::forms))]
@@ -88,7 +88,24 @@ pub fn call(alloc: Global, tokens: &mut Tokens) -> Result<(u64, RawAction), Stop
     let priorities = call_open(alloc, tokens)?;
     let arguments = listed(alloc, tokens)?;
     tokens.expect_sign(Sign::CloseParen)?;
-    Ok((at, RawAction::Call(procedure, priorities, arguments)))
+    let call = boxed_call(alloc, procedure, priorities, arguments)?;
+    Ok((at, RawAction::Call(call)))
+}
+
+fn boxed_call(
+    alloc: Global,
+    procedure: Name,
+    priorities: Vec<Name>,
+    arguments: Vec<RawExpr>,
+) -> Result<Box<RawCall>, AllocError>
+    ensures { IfOk result (λ b. b.value ≡ record { procedure = procedure; priorities = priorities; arguments = arguments }) }
+{
+    let call = RawCall {
+        procedure,
+        priorities,
+        arguments,
+    };
+    Ok(Box::new(alloc, call)?)
 }
 
 /// The priorities of a call, if there are any, and the bracket of its arguments.

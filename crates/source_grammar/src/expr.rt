@@ -11,7 +11,7 @@ ghost use Rattle.source_grammar.specs.Stops.{Moves};
 
 use crate::choice::{ExprForm, Joint, Prefix, Side};
 use crate::cursor::{Stop, Tokens};
-use crate::raw::{RawExpr, RawForm, Written};
+use crate::raw::{RawExpr, RawForm, RawInjection, RawTwo, Written};
 use crate::ty::written;
 use source_tokens::token::{Kind, Sign, Token, Word};
 use std::alloc::{AllocError, Global};
@@ -285,15 +285,15 @@ impl Side {
     ) -> Result<RawExpr, AllocError>
         ensures { IfOk result (λ e. read_expr e ≡ side_term self at (read_written ty) (read_expr value)) }
     {
-        let value = boxed(alloc, value)?;
+        let injection = boxed_injection(alloc, ty, value)?;
         match self {
             Side::Left => Ok(RawExpr {
                 at,
-                form: RawForm::Inl(ty, value),
+                form: RawForm::Inl(injection),
             }),
             Side::Right => Ok(RawExpr {
                 at,
-                form: RawForm::Inr(ty, value),
+                form: RawForm::Inr(injection),
             }),
         }
     }
@@ -308,18 +308,35 @@ fn join(
 ) -> Result<RawExpr, AllocError>
     ensures { IfOk result (λ e. read_expr e ≡ joint_term joint at (read_expr first) (read_expr second)) }
 {
-    let first = boxed(alloc, first)?;
-    let second = boxed(alloc, second)?;
+    let both = boxed_two(alloc, first, second)?;
     match joint {
         Joint::Comma => Ok(RawExpr {
             at,
-            form: RawForm::Pair(first, second),
+            form: RawForm::Pair(both),
         }),
         Joint::Operator(op) => Ok(RawExpr {
             at,
-            form: RawForm::Op(op, first, second),
+            form: RawForm::Op(op, both),
         }),
     }
+}
+
+fn boxed_two(alloc: Global, first: RawExpr, second: RawExpr) -> Result<Box<RawTwo>, AllocError>
+    ensures first { IfOk result (λ b. read_expr b.value.first ≡ read_expr first) }
+    ensures second { IfOk result (λ b. read_expr b.value.second ≡ read_expr second) }
+{
+    Ok(Box::new(alloc, RawTwo { first, second })?)
+}
+
+fn boxed_injection(
+    alloc: Global,
+    sum: Written,
+    value: RawExpr,
+) -> Result<Box<RawInjection>, AllocError>
+    ensures sum { IfOk result (λ b. b.value.sum ≡ sum) }
+    ensures value { IfOk result (λ b. read_expr b.value.value ≡ read_expr value) }
+{
+    Ok(Box::new(alloc, RawInjection { sum, value })?)
 }
 
 fn boxed(alloc: Global, value: RawExpr) -> Result<Box<RawExpr>, AllocError>

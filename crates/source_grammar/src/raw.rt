@@ -43,13 +43,29 @@ pub enum RawForm {
     Int(u64),
     Bool(bool),
     Unit,
-    Pair(Box<RawExpr>, Box<RawExpr>),
+    Pair(Box<RawTwo>),
     Fst(Box<RawExpr>),
     Snd(Box<RawExpr>),
-    Inl(Written, Box<RawExpr>),
-    Inr(Written, Box<RawExpr>),
-    Op(Op, Box<RawExpr>, Box<RawExpr>),
+    Inl(Box<RawInjection>),
+    Inr(Box<RawInjection>),
+    Op(Op, Box<RawTwo>),
     Not(Box<RawExpr>),
+}
+
+/// Two expressions, in order. They stand in one box, so that a tree takes little room.
+#[cycle(raw_expr)]
+#[derive(Drop)]
+pub struct RawTwo {
+    pub first: RawExpr,
+    pub second: RawExpr,
+}
+
+/// A value of a sum, with the sum's type.
+#[cycle(raw_expr)]
+#[derive(Drop)]
+pub struct RawInjection {
+    pub sum: Written,
+    pub value: RawExpr,
 }
 
 /// A block: bound actions and an ending.
@@ -77,10 +93,18 @@ pub enum RawAction {
     Ret(RawExpr),
     Spawn(Name, Box<RawBlock>),
     Sync(Name),
-    Call(Name, Vec<Name>, Vec<RawExpr>),
+    Call(Box<RawCall>),
     Do(Box<RawBlock>),
     Input,
     Output(RawExpr),
+}
+
+/// A call: the procedure's name, its priorities and its arguments.
+#[derive(Drop)]
+pub struct RawCall {
+    pub procedure: Name,
+    pub priorities: Vec<Name>,
+    pub arguments: Vec<RawExpr>,
 }
 
 /// What ends a block, with the offset of its word.

@@ -5,7 +5,7 @@ use Rattle.priml_syntax.specs.declared.prio.Prio.TheVariants.{Const, Var}
 use Rattle.priml_syntax.specs.Tree as tree
 use Rattle.priml_syntax.specs.Tree.{Tree, Code, Routine}
 use Rattle.source_grammar.specs.declared.raw.Name.{Name}
-use Rattle.source_grammar.specs.RawTree.{RawType, int, pair, thread, WrittenType, var, number, RawCode, block, RawBody, bind, give, split, ret, spawn, sync, call, Parameter, RawProcedure, Declaration, priority, order, procedure, RawTree}
+use Rattle.source_grammar.specs.RawTree.{RawType, int, pair, thread, WrittenType, var, number, block, RawBody, bind, give, split, ret, spawn, sync, call, Parameter, Declaration, priority, order, procedure, RawTree}
 use Rattle.source_reader.specs.declared.faults.Fault.{Fault}
 use Rattle.source_reader.specs.declared.faults.Fault.TheVariants.{UnknownName, TwiceNamed, TooMany}
 use Rattle.source_reader.specs.declared.faults.What.TheVariants.{Priorities, PrioVars, Constraints, Parameters, Scope, TypeNodes}

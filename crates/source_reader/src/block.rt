@@ -97,9 +97,14 @@ fn action_of(
             Ok(Action::Spawn(own, body))
         }
         RawAction::Sync(thread) => Ok(Action::Sync(variable(scope, thread.at, thread.id)?)),
-        RawAction::Call(called, given, arguments) => {
-            call(alloc, names, scope, called, given, arguments)
-        }
+        RawAction::Call(made) => call(
+            alloc,
+            names,
+            scope,
+            &made.procedure,
+            &made.priorities,
+            &made.arguments,
+        ),
         RawAction::Do(body) => Ok(Action::Do(boxed(alloc, names, scope, body)?)),
         RawAction::Input => Ok(Action::Input),
         RawAction::Output(e) => Ok(Action::Output(expression(alloc, names, scope, e)?)),

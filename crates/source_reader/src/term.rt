@@ -152,26 +152,26 @@ fn form_of(
         RawForm::Int(n) => Ok(ExprForm::Int(*n as i64)),
         RawForm::Bool(b) => Ok(ExprForm::Bool(*b)),
         RawForm::Unit => Ok(ExprForm::Unit),
-        RawForm::Pair(a, b) => {
-            let a = boxed_term(alloc, names, scope, a)?;
-            let b = boxed_term(alloc, names, scope, b)?;
+        RawForm::Pair(both) => {
+            let a = boxed_term(alloc, names, scope, &both.first)?;
+            let b = boxed_term(alloc, names, scope, &both.second)?;
             Ok(ExprForm::Pair(a, b))
         }
         RawForm::Fst(a) => Ok(ExprForm::Fst(boxed_term(alloc, names, scope, a)?)),
         RawForm::Snd(a) => Ok(ExprForm::Snd(boxed_term(alloc, names, scope, a)?)),
-        RawForm::Inl(ty, a) => {
-            let ty = written(alloc, names, ty)?;
-            let a = boxed_term(alloc, names, scope, a)?;
+        RawForm::Inl(injection) => {
+            let ty = written(alloc, names, &injection.sum)?;
+            let a = boxed_term(alloc, names, scope, &injection.value)?;
             Ok(ExprForm::Inl(ty, a))
         }
-        RawForm::Inr(ty, a) => {
-            let ty = written(alloc, names, ty)?;
-            let a = boxed_term(alloc, names, scope, a)?;
+        RawForm::Inr(injection) => {
+            let ty = written(alloc, names, &injection.sum)?;
+            let a = boxed_term(alloc, names, scope, &injection.value)?;
             Ok(ExprForm::Inr(ty, a))
         }
-        RawForm::Op(op, a, b) => {
-            let a = boxed_term(alloc, names, scope, a)?;
-            let b = boxed_term(alloc, names, scope, b)?;
+        RawForm::Op(op, both) => {
+            let a = boxed_term(alloc, names, scope, &both.first)?;
+            let b = boxed_term(alloc, names, scope, &both.second)?;
             Ok(ExprForm::Op(*op, a, b))
         }
         RawForm::Not(a) => Ok(ExprForm::Not(boxed_term(alloc, names, scope, a)?)),

@@ -13,4 +13,5 @@ pub mod Declarations
 pub mod Spelled
 pub mod Fitting
 pub mod Standing
+pub mod OneFault
 pub mod Worked

@@ -1,7 +1,8 @@
 -- Laws of the order of faults.
-use Rattle.std.proofs.Common.{◌≡◌, ℕ, ◌<◌, ◌≤◌, inl, inr, List, [], ◌∷◌, ◌++◌, arith, refl, sym, subst}
+use Rattle.std.proofs.Common.{◌≡◌, ℕ, ◌<◌, ◌≤◌, ◌⊎◌, inl, inr, List, [], ◌∷◌, ◌++◌, arith, sym, subst, ◌∙◌}
 use Rattle.source_reader.specs.declared.faults.Fault.{Fault}
-use Rattle.source_reader.specs.Order.{place, Leads, Ascends, Between, Within}
+use Rattle.source_reader.specs.Order.{place, Before, Leads, Ascends, Between, Within}
+use Rattle.source_reader.specs.Stands.{IsFirst}
 
 pub widen : (a b c d : ℕ) (fs : List Fault) → a ≤ b → c ≤ d → Between b c fs → Between a d fs
 widen a b c d [] p q h = tt
@@ -30,6 +31,32 @@ behind a mid b fs gs l r h k = record {
   ascends = ascends_both a mid b fs gs h.between h.ascends k.between k.ascends;
 }
 
--- the first of the faults is before each of them
-pub leads_all : (f : Fault) (rest fs : List Fault) → fs ≡ f ∷ rest → Ascends fs → Leads f fs
-leads_all f rest fs e h = let ascends = subst Ascends e h in subst (Leads f) (sym e) (inr (refl, omega arith), ascends.0)
+-- a fault that is not the one that leads stands behind it
+led : (f g : Fault) (bs cs : List Fault) → Leads f (bs ++ g ∷ cs) → Before f g
+led f g [] cs h = h.0
+led f g (b ∷ bs) cs h = led f g bs cs h.1
+
+same_or_behind : (f g : Fault) (ps bs cs ds : List Fault) → ps ++ f ∷ bs ≡ cs ++ g ∷ ds → Leads f (ps ++ bs) → (f ≡ g) ⊎ Before f g
+same_or_behind f g [] bs [] ds e h = inl (cc)
+same_or_behind f g [] bs (c ∷ cs) ds e h = let rest : bs ≡ cs ++ g ∷ ds = cc in inr (led f g cs ds (subst (Leads f) rest h))
+same_or_behind f g (a ∷ ps) bs [] ds e h = let head : a ≡ g = cc in inr (subst (Before f) head h.0)
+same_or_behind f g (a ∷ ps) bs (c ∷ cs) ds e h = let rest : ps ++ f ∷ bs ≡ cs ++ g ∷ ds = cc in same_or_behind f g ps bs cs ds rest h.1
+
+-- no fault stands before one that stands before it
+one_way : (f g : Fault) → Before f g → Before g f → ⊥
+one_way f g (inl l) (inl m) = omega (arith, l, m)
+one_way f g (inl l) (inr m) = let e = m.0 in omega (arith, l, e)
+one_way f g (inr l) (inl m) = let e = l.0 in omega (arith, e, m)
+one_way f g (inr l) (inr m) = let a = l.1 in let b = m.1 in omega (arith, a, b)
+
+-- of some faults one is the first
+pub one_first : (f g : Fault) (fs : List Fault) → IsFirst f fs → IsFirst g fs → f ≡ g
+one_first f g fs p q = by (same_or_behind f g p.before p.after q.before q.after (sym p.among ∙ q.among) p.leads)
+  where
+    back : Before f g → (g ≡ f) ⊎ Before g f → f ≡ g
+    back before (inl e) = sym e
+    back before (inr behind) = absurd (one_way f g before behind)
+
+    by : (f ≡ g) ⊎ Before f g → f ≡ g
+    by (inl e) = e
+    by (inr before) = back before (same_or_behind g f q.before q.after p.before p.after (sym q.among ∙ p.among) q.leads)

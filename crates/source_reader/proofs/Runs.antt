@@ -1,5 +1,5 @@
 -- The faults of a run of tokens: they stand in it, in order.
-use Rattle.std.proofs.Common.{◌≡◌, ℕ, ◌+◌, ◌≤◌, Bool, true, false, not, is_some, nat_lt, length, List, [], ◌∷◌, ◌++◌, arith, refl, inr}
+use Rattle.std.proofs.Common.{◌≡◌, ℕ, ◌+◌, ◌≤◌, ◌<◌, Bool, true, false, not, is_some, nat_lt, length, List, [], ◌∷◌, ◌++◌, arith, refl, inr}
 use Rattle.source_tokens.specs.declared.token.Token.{Token}
 use Rattle.source_tokens.specs.declared.token.Stop.TheVariants as stop
 use Rattle.source_tokens.specs.Laws.{AreInOrder}
@@ -66,7 +66,7 @@ one_at true f = record { between = tt; ascends = tt }
 one_at false f = record { between = (omega arith, omega arith, tt); ascends = (tt, tt) }
 
 -- two tests at one place
-pub two_at : (b d : Bool) (f g : Fault) (at : ℕ) → place f ≡ at → place g ≡ at → kind f ≤ kind g → Within at (at + 1) (unless b f ++ unless d g)
+pub two_at : (b d : Bool) (f g : Fault) (at : ℕ) → place f ≡ at → place g ≡ at → kind f < kind g → Within at (at + 1) (unless b f ++ unless d g)
 two_at true true f g at p q l = record { between = tt; ascends = tt }
 two_at true false f g at p q l = record { between = (omega (arith, q), omega (arith, q), tt); ascends = (tt, tt) }
 two_at false true f g at p q l = record { between = (omega (arith, p), omega (arith, p), tt); ascends = (tt, tt) }

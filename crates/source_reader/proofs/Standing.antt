@@ -1,5 +1,5 @@
 -- What a text stands for, by its tree, and what its fault is where it stands for no program.
-use Rattle.std.proofs.Common.{◌≡◌, ◌≢◌, ℕ, ◌≤◌, inr, List, [], ◌∷◌, length, slice_get, Some, None, append-nil, refl, sym, subst, ◌∙◌, arith, Result, Ok, Err}
+use Rattle.std.proofs.Common.{◌≡◌, ◌≢◌, ℕ, ◌≤◌, List, [], ◌∷◌, length, slice_get, Some, None, append-nil, refl, sym, subst, ◌∙◌, arith, Result, Ok, Err}
 use Rattle.std.specs.Prelude.{IfOk, IfErr}
 use Rattle.std.proofs.lemmas.List.{take_all}
 use Rattle.priml_syntax.specs.declared.program.Program.{Program}
@@ -18,7 +18,7 @@ use Rattle.source_reader.specs.declared.faults.Fault.{Fault}
 use Rattle.source_reader.specs.declared.reader.SourceFault.{SourceFault}
 use Rattle.source_reader.specs.declared.reader.SourceFault.TheVariants.{BadByte, BadNumber, Unexpected, UnknownName, TwiceNamed, TooDeep, TooMany, OutOfMemory}
 use Rattle.source_reader.specs.Faults.{faults}
-use Rattle.source_reader.specs.Order.{Before, Leads, Ascends}
+use Rattle.source_reader.specs.Order.{Ascends}
 use Rattle.source_reader.specs.Resolved.{resolved}
 use Rattle.source_reader.specs.Stands.{Stands, IsFirst, IsFaultOf, bad_byte, bad_number, too_deep, unexpected, cut_off, of_names, Refuses}
 use Rattle.source_reader.specs.Written.{IsWrittenAs, IsFirstOf, stop_fault}
@@ -118,16 +118,11 @@ pub only_if : (text : List ℕ) (ns : List (List ℕ)) (raw : RawTree) (result :
 only_if text ns raw (Ok p) only meant = λ q s. let same = only s.names s.raw (as_written text q s) in sym s.meant ∙ same_meaning ns s.names raw s.raw same.0 same.1 ∙ meant
 only_if text ns raw (Err e) only meant = tt
 
--- a fault is not behind itself
-before_itself : (f : Fault) → Before f f
-before_itself f = inr (refl, omega arith)
-
 -- the first fault of names and limits is the fault of the text
 names_fault : (text : List ℕ) (ns : List (List ℕ)) (raw : RawTree) (e : SourceFault) → IsWrittenAs text ns raw → IsOnly text ns raw → Ascends (faults raw) → IsFirstOf (faults raw) e → Refuses text e
 names_fault text ns raw e w only up first =
     let f = first.fault in
-    let leads : Leads f (f ∷ first.rest) = (before_itself f, (subst Ascends first.among up).0) in
-    let is : IsFirst f (faults raw) = record { before = []; after = first.rest; among = first.among; leads = subst (Leads f) (sym first.among) leads } in
+    let is : IsFirst f (faults raw) = record { before = []; after = first.rest; among = first.among; leads = (subst Ascends first.among up).0 } in
     let none : (p : Tree) → Stands text p → ⊥ = λ p s. let same = only s.names s.raw (as_written text p s) in let c : faults raw ≡ [] = subst (λ q. faults q ≡ []) same.1 s.clean in let d : ◌≡◌ {A = List Fault} [] (f ∷ first.rest) = sym c ∙ first.among in absurd (cc) in
     refusal text e (subst (IsFaultOf text) (sym first.is) (of_names f w.lexed w.derived is)) none
 

@@ -16,8 +16,9 @@ kind (UnknownName at) = 4
 kind (TwiceNamed at) = 5
 kind (TooMany at what) = 7
 
+-- at an earlier place, or at its place with a smaller number
 abbrev pub Before : Fault → Fault → Type 0
-Before f g = (place f < place g) ⊎ ((place f ≡ place g) × (kind f ≤ kind g))
+Before f g = (place f < place g) ⊎ ((place f ≡ place g) × (kind f < kind g))
 
 -- the fault is before each of these
 abbrev pub Leads : Fault → List Fault → Type 0

@@ -33,12 +33,12 @@ as_source (fault.UnknownName at) = UnknownName at
 as_source (fault.TwiceNamed at) = TwiceNamed at
 as_source (fault.TooMany at what) = TooMany at what
 
--- the fault is one of these, and none of them stands before it: at an earlier place, or at its place with a smaller number
+-- the fault is one of these, and each other stands behind it: at a later place, or at its place with a greater number
 pub record IsFirst (f : Fault) (fs : List Fault) : Type 0 where
   pub before : List Fault
   pub after : List Fault
   pub among : fs ≡ before ++ f ∷ after
-  pub leads : Leads f fs
+  pub leads : Leads f (before ++ after)
 
 -- The fault of a text that stands for no program. What its tokens say comes first, and of that the earliest place. Only where the tokens are those of a
 -- program, its names and limits are looked at.

@@ -15,7 +15,7 @@ ghost use Rattle.source_grammar.specs.RawTree.{RawTree};
 ghost use Rattle.source_reader.specs.Faults.{faults};
 ghost use Rattle.source_reader.specs.Resolved.{resolved};
 ghost use Rattle.source_reader.specs.Fits.{Fits};
-ghost use Rattle.source_reader.specs.Stands.{Stands, Refuses, as_source};
+ghost use Rattle.source_reader.specs.Stands.{Stands, IsFaultOf, Refuses, as_source};
 ghost use Rattle.source_reader.specs.Written.{IsWrittenAs, IsFirstOf, stop_fault};
 
 use crate::faults::{Fault, ResolveStop, What};
@@ -61,12 +61,13 @@ impl From<AllocError> for SourceFault {
     }
 }
 
-/// The program that a text stands for; it is the only one. Where it stands for none, its fault.
+/// The program that a text stands for; it is the only one. Where it stands for none, its fault, which is the only one too.
 pub fn read_source(alloc: Global, text: &[u8]) -> Result<Program, SourceFault>
     ensures program { IfOk result (λ p. Stands text.now (read_program p)) }
     ensures scoped { IfOk result (λ p. IsScoped (read_program p)) }
     ensures only { IfOk result (λ p. (q : Tree) → Stands text.now q → q ≡ read_program p) }
     ensures refused { IfErr result (Refuses text.now) }
+    ensures one { IfErr result (λ e. e ≢ SourceFault.OutOfMemory → (f : SourceFault) → IsFaultOf text.now f → f ≡ e) }
 {
     let written = tree(alloc, text)?;
     let read = program(alloc, &written.names, &written.raw);

@@ -8,6 +8,7 @@ use Rattle.source_grammar.specs.RawRead.{read_raw}
 use Rattle.source_reader.specs.Fits.{Fits}
 use Rattle.source_reader.proofs.Fitting.{lexed_fits, lexed_ascii, program_fits}
 use Rattle.source_reader.proofs.InOrder.{faults_ascend}
+use Rattle.source_reader.proofs.OneFault.{once_if, once_handed}
 use Rattle.source_reader.proofs.Standing.{scoped_if, only_if, refused_if}
 use Rattle.source_reader.proofs.reader.read_source.Goals as goal
 
@@ -44,3 +45,9 @@ returns-clause-refused c =
     let is = c.in_ok-written.ensures.written in
     let up = faults_ascend is.tokens raw (length text) is.derived (lexed_lawful text is.tokens names Done is.lexed).in_order in
     refused_if text names raw c.program-read.result is c.in_ok-written.ensures.only up c.program-read.ensures.refused
+
+pub returns-clause-one : goal.returns-clause-one
+returns-clause-one c = once_if c.args.text.now c.program-read.result (returns-clause-refused c)
+
+pub returns-in_err-written-clause-one : goal.returns-in_err-written-clause-one
+returns-in_err-written-clause-one c = once_handed c.args.text.now c.in_err-written.field-0.0 c.from_residual.result c.from_residual.ensures.1 c.in_err-written.ensures.refused

@@ -13,8 +13,8 @@ read_shared shared.Unit = unit
 read_shared shared.Bool = bool
 read_shared shared.Int = int
 read_shared (shared.Written ps t) = type_at ps.now (read_type t.now)
-read_shared (shared.Pair' p a q b) = pair (read_shared a) (read_shared b)
-read_shared (shared.Sum' p a q b) = sum (read_shared a) (read_shared b)
+read_shared (shared.Pair' p a b) = pair (read_shared a) (read_shared b)
+read_shared (shared.Sum' p a b) = sum (read_shared a) (read_shared b)
 read_shared (shared.Thread' r p a) = thread r (read_shared a)
 
 -- the plain type of an outermost form

@@ -11,15 +11,24 @@ use std::rc::Rc;
 
 // A type in the checker: one that the program writes, with priorities for its
 // variables, or one that is made of others. A copy shares its parts.
+#[cycle(shared)]
 #[derive(Drop)]
 pub enum Shared<'p> {
     Unit,
     Bool,
     Int,
     Written(&'p [Prio], &'p Ty),
-    Pair(Rc<Shared<'p>>, Rc<Shared<'p>>),
-    Sum(Rc<Shared<'p>>, Rc<Shared<'p>>),
+    Pair(Rc<Parts<'p>>),
+    Sum(Rc<Parts<'p>>),
     Thread(Prio, Rc<Shared<'p>>),
+}
+
+// The two parts of a pair or a sum, which are shared together.
+#[cycle(shared)]
+#[derive(Drop)]
+pub struct Parts<'p> {
+    left: Shared<'p>,
+    right: Shared<'p>,
 }
 
 // The outermost form of a type, with its parts.
@@ -48,7 +57,7 @@ impl<'p> Shared<'p> {
     ) -> Result<Shared<'p>, AllocError>
         ensures { IfOk result (λ t. read_shared t ≡ pair (read_shared left.entry) (read_shared right.entry)) }
     {
-        Ok(Shared::Pair(Rc::new(alloc, left)?, Rc::new(alloc, right)?))
+        Ok(Shared::Pair(Rc::new(alloc, Parts { left, right })?))
     }
 
     pub fn thread(alloc: Global, q: Prio, inner: Shared<'p>) -> Result<Shared<'p>, AllocError>
@@ -61,7 +70,11 @@ impl<'p> Shared<'p> {
     pub fn input(alloc: Global) -> Result<Shared<'p>, AllocError>
         ensures { IfOk result (λ t. read_shared t ≡ sum unit int) }
     {
-        Ok(Shared::Sum(Rc::new(alloc, Shared::Unit)?, Rc::new(alloc, Shared::Int)?))
+        let parts = Parts {
+            left: Shared::Unit,
+            right: Shared::Int,
+        };
+        Ok(Shared::Sum(Rc::new(alloc, parts)?))
     }
 
     pub fn copy(&self) -> Result<Shared<'p>, AllocError>
@@ -72,8 +85,8 @@ impl<'p> Shared<'p> {
             Shared::Bool => Ok(Shared::Bool),
             Shared::Int => Ok(Shared::Int),
             Shared::Written(ps, t) => Ok(Shared::Written(*ps, *t)),
-            Shared::Pair(a, b) => Ok(Shared::Pair(a.clone()?, b.clone()?)),
-            Shared::Sum(a, b) => Ok(Shared::Sum(a.clone()?, b.clone()?)),
+            Shared::Pair(parts) => Ok(Shared::Pair(parts.clone()?)),
+            Shared::Sum(parts) => Ok(Shared::Sum(parts.clone()?)),
             Shared::Thread(q, a) => Ok(Shared::Thread(*q, a.clone()?)),
         }
     }
@@ -86,8 +99,8 @@ impl<'p> Shared<'p> {
             Shared::Bool => Ok(Shape::Bool),
             Shared::Int => Ok(Shape::Int),
             Shared::Written(ps, t) => Ok(written_shape(*ps, *t)),
-            Shared::Pair(a, b) => Ok(Shape::Pair(a.copy()?, b.copy()?)),
-            Shared::Sum(a, b) => Ok(Shape::Sum(a.copy()?, b.copy()?)),
+            Shared::Pair(parts) => Ok(Shape::Pair(parts.left.copy()?, parts.right.copy()?)),
+            Shared::Sum(parts) => Ok(Shape::Sum(parts.left.copy()?, parts.right.copy()?)),
             Shared::Thread(q, a) => Ok(Shape::Thread(*q, a.copy()?)),
         }
     }
@@ -101,8 +114,9 @@ impl<'p> Shared<'p> {
             (Shared::Unit, Shared::Unit) => true,
             (Shared::Bool, Shared::Bool) => true,
             (Shared::Int, Shared::Int) => true,
-            (Shared::Pair(a, b), Shared::Pair(c, d)) => a.equals(c) && b.equals(d),
-            (Shared::Sum(a, b), Shared::Sum(c, d)) => a.equals(c) && b.equals(d),
+            (Shared::Pair(a), Shared::Pair(b)) => a.left.equals(&b.left)
+                && a.right.equals(&b.right),
+            (Shared::Sum(a), Shared::Sum(b)) => a.left.equals(&b.left) && a.right.equals(&b.right),
             (Shared::Thread(q, a), Shared::Thread(r, b)) => *q == *r && a.equals(b),
             _ => false,
         }
@@ -117,8 +131,8 @@ impl<'p> Shared<'p> {
             (Shared::Unit, Ty::Unit) => true,
             (Shared::Bool, Ty::Bool) => true,
             (Shared::Int, Ty::Int) => true,
-            (Shared::Pair(a, b), Ty::Pair(c, d)) => a.is(ps, c) && b.is(ps, d),
-            (Shared::Sum(a, b), Ty::Sum(c, d)) => a.is(ps, c) && b.is(ps, d),
+            (Shared::Pair(parts), Ty::Pair(c, d)) => parts.left.is(ps, c) && parts.right.is(ps, d),
+            (Shared::Sum(parts), Ty::Sum(c, d)) => parts.left.is(ps, c) && parts.right.is(ps, d),
             (Shared::Thread(q, a), Ty::Thread(r, b)) => *q == at_prio(ps, *r) && a.is(ps, b),
             _ => false,
         }
@@ -138,9 +152,10 @@ impl<'p> Shared<'p> {
         match self {
             Shared::Unit | Shared::Bool | Shared::Int => 1,
             Shared::Written(_, t) => t.nodes(),
-            Shared::Pair(a, b) | Shared::Sum(a, b) => a
+            Shared::Pair(parts) | Shared::Sum(parts) => parts
+                .left
                 .nodes()
-                .saturating_add(b.nodes())
+                .saturating_add(parts.right.nodes())
                 .saturating_add(1),
             Shared::Thread(_, a) => a.nodes().saturating_add(1),
         }

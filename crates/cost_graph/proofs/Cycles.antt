@@ -16,6 +16,10 @@ apart_all : (x : ℕ) (xs : List ℕ) → (Contains xs x → ⊥) → AllByRecur
 apart_all x [] h = tt
 apart_all x (y ∷ ys) h = (ne_eqb x y (λ e. h (subst (Contains (y ∷ ys)) (sym e) (member_head y ys))), apart_all x ys (λ c. h (member_tail y ys x c)))
 
+pub distinct_with : (x : ℕ) (xs : List ℕ) → IsDistinct nat_eq xs → (Contains xs x → ⊥) → IsDistinct nat_eq (x ∷ xs)
+unfolding IsDistinct
+distinct_with x xs d out = (apart_all x xs out, d)
+
 distinct_or_repeats : (xs : List ℕ) → IsDistinct nat_eq xs ⊎ Repeats xs
 unfolding IsDistinct
 distinct_or_repeats [] = inl tt

@@ -19,3 +19,6 @@ pub mod Made
 pub mod Carried
 pub mod OneGraph
 pub mod Said
+pub mod Ordered
+pub mod JobEnds
+pub mod Unfit

@@ -7,13 +7,18 @@ use Rattle.std.proofs.lemmas.List.Elements.{Contains-append_left, Contains-appen
 use Rattle.std.proofs.lemmas.Bool.{cases_lt, cases_eq, both_ways}
 use Rattle.std.proofs.Math.Seq.{take-suc, drop-cons, get_or-append_right, take-length, take-add}
 use Rattle.std.proofs.Math.ListN.{get_or-append}
+use Rattle.std.specs.Cmp.{nat_eq_equiv}
+use Rattle.std.specs.Set.{is_member}
+use Rattle.std.proofs.lemmas.Map.Made.{is_member-Decides, length-le_from_is_member}
+use Rattle.std.proofs.lemmas.Map.Steps.{length-le_from_distinct_below}
+use Rattle.std.proofs.lemmas.List.FromFn.{length-range_with_len}
 use Rattle.cost_graph.specs.Graph.{CostGraph, vertex_total, parents_at, children_at, is_edge, Edge, IsGraph}
 use Rattle.cost_graph.specs.Marks.{is_free, IsSeen, IsReady, freed_by, unmarked}
-use Rattle.cost_graph.specs.Order.{IsTopological, IsCyclic}
-use Rattle.cost_graph.proofs.Members.{member_or_not, no_member, member_cons, member_head, member_tail, distinct_right, distinct_apart, distinct_filter, distinct_join, parents_seen, in_drop, no_member_short, short_from_none}
+use Rattle.cost_graph.specs.Order.{IsTopological, IsSortedOrStuck}
+use Rattle.cost_graph.proofs.Members.{decides_eq, member_or_not, no_member, member_cons, member_head, member_tail, distinct_right, distinct_apart, distinct_filter, distinct_join, parents_seen, in_drop, no_member_short, short_from_none}
 use Rattle.cost_graph.proofs.Visits.{numbers_below}
 use Rattle.cost_graph.proofs.ReadyNext.{IsDone, IsFreed, done_next, ready_then, then_ready, freed_is}
-use Rattle.cost_graph.proofs.Cycles.{stuck_cycle}
+use Rattle.cost_graph.proofs.Cycles.{distinct_with, stuck_cycle}
 use Rattle.cost_graph.proofs.Falls.{falls}
 use Rattle.cost_graph.proofs.Ranges.{in_range, in_filter, out_filter, from_filter, distinct_range}
 
@@ -144,15 +149,11 @@ all_or_one order (suc n) =
       ]
     ]
 
-pub sorted_or_cyclic : (g : CostGraph) (marks : List Bool) (seen order : List ℕ) (place : ℕ) → IsSorting g marks seen order place → IsGraph g → length order ≤ place → IsTopological g order ⊎ IsCyclic (Edge g)
-sorted_or_cyclic g marks seen order place now shape end =
+pub sorted_or_stuck : (g : CostGraph) (marks : List Bool) (seen order : List ℕ) (place : ℕ) → IsSorting g marks seen order place → IsGraph g → length order ≤ place → IsSortedOrStuck g order
+sorted_or_stuck g marks seen order place now shape end =
     elim (all_or_one order (vertex_total g)) [
-      | inl all ↦ inl (record {
-        all = λ v. (all v, λ c. below v c);
-        after = now.after;
-        once = now.once;
-      })
-      | inr m ↦ inr (stuck_cycle (Edge g) (λ v. (v < vertex_total g) × (Contains order v → ⊥)) (vertex_total g) (λ v u. u.0) back m.0 (m.1, m.2))
+      | inl all ↦ inl (record { all = λ v. (all v, λ c. below v c); after = now.after; once = now.once }, full all)
+      | inr m ↦ inr (stuck_cycle (Edge g) (λ v. (v < vertex_total g) × (Contains order v → ⊥)) (vertex_total g) (λ v u. u.0) back m.0 (m.1, m.2), short m.0 m.1 m.2)
     ]
   where
     whole : take place order ≡ order
@@ -174,6 +175,23 @@ sorted_or_cyclic g marks seen order place now shape end =
               let c = in_drop order place v ((now.queue v).1 ready) in
               absurd (u.1 c)
         ]
+
+    member : (xs : List ℕ) (q : ℕ) → (Contains xs q → is_member nat_eq xs q ≡ true) × (is_member nat_eq xs q ≡ true → Contains xs q)
+    member xs q = let d = is_member-Decides decides_eq xs q in (λ c. d.1 c, λ e. d.0 e)
+
+    low : length order ≤ vertex_total g
+    low = length-le_from_distinct_below order (vertex_total g) now.once (λ q e. below q ((member order q).1 e))
+
+    full : ((v : ℕ) → v < vertex_total g → Contains order v) → length order ≡ vertex_total g
+    full all =
+        let numbers = range_with_len 0 (vertex_total g) in
+        let high = length-le_from_is_member nat_eq_equiv numbers order (distinct_range 0 (vertex_total g)) (λ q e. (member order q).0 (all q (All-contains (λ v. v < vertex_total g) numbers q (numbers_below (vertex_total g)) ((member numbers q).1 e)))) in
+        omega (arith, low, high, length-range_with_len 0 (vertex_total g))
+
+    short : (v : ℕ) → v < vertex_total g → (Contains order v → ⊥) → length order < vertex_total g
+    short v lt out =
+        let one = length-le_from_distinct_below (v ∷ order) (vertex_total g) (distinct_with v order now.once out) (λ q e. elim (member_cons v order q ((member (v ∷ order) q).1 e)) [ inl is ↦ subst (λ x. x < vertex_total g) is lt | inr later ↦ below q later ]) in
+        omega (arith, one)
 
 no_seen : (n v : ℕ) → get_or {A = ℕ} (replicate n 0) v 0 ≡ 0
 no_seen zero v = refl

@@ -7,3 +7,5 @@ pub mod Records
 pub mod Text
 pub mod Tables
 pub mod RecordLines
+pub mod Finished
+pub mod Shape

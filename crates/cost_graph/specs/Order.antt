@@ -22,3 +22,7 @@ HasWay marks numbers target = (n : ℕ) × Contains numbers n × ((n ≡ target)
 pub record AreMarked (g : CostGraph) (P : ℕ → Type 0) (marks : List Bool) : Type 0 where
   pub covers : length marks ≡ vertex_total g
   pub are : (v : ℕ) → v < vertex_total g → (get_or marks v false ≡ true) ↔ P v
+
+-- all vertices in such an order, or fewer, and a cycle
+abbrev pub IsSortedOrStuck : CostGraph → List ℕ → Type 0
+IsSortedOrStuck g order = (IsTopological g order × (length order ≡ vertex_total g)) ⊎ (IsCyclic (Edge g) × (length order < vertex_total g))

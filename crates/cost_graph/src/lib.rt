@@ -2,16 +2,22 @@
 #![tactic(auto)]
 
 mod build;
+mod finished;
 mod graph;
 mod kin;
 mod lines;
 mod marks;
 mod order;
 mod records;
+mod shape;
+mod stop;
 mod text;
 
+pub use finished::are_finished;
 pub use graph::{Graph, Thread};
 pub use kin::{ancestors, descendants};
 pub use marks::{run_step, sources, visit};
-pub use order::topological;
+pub use order::{has_cycle, topological};
+pub use shape::well_formed;
+pub use stop::{Shape, ShapeStop};
 pub use text::{push_path, push_vertex};

@@ -1,8 +1,8 @@
-ghost use Rattle.std.specs.Prelude.{◌≡◌, ℕ, ◌<◌, ◌⊎◌, ◌++◌, length, get_or, OnOk, IfOk, true, set, slice_set, slice_index};
+ghost use Rattle.std.specs.Prelude.{◌≡◌, ℕ, ◌<◌, ◌⊎◌, ◌++◌, length, get_or, OnOk, IfOk, MatchBool, true, set, slice_set, slice_index};
 ghost use Rattle.std.specs.List.{filter};
-ghost use Rattle.cost_graph.specs.Graph.{vertex_total, children_at, Edge};
+ghost use Rattle.cost_graph.specs.Graph.{vertex_total, children_at, Edge, IsAcyclic};
 ghost use Rattle.cost_graph.specs.Marks.{IsSeen, is_free};
-ghost use Rattle.cost_graph.specs.Order.{IsTopological, IsCyclic};
+ghost use Rattle.cost_graph.specs.Order.{IsTopological, IsCyclic, IsSortedOrStuck};
 
 use crate::graph::Graph;
 use crate::marks::{sources, visit};
@@ -31,6 +31,22 @@ fn pass(
 /// let them.
 pub fn topological(alloc: Global, graph: &Graph) -> Result<Vec<u32>, AllocError>
     ensures { IfOk result (λ order. IsTopological graph.now order.items ⊎ IsCyclic (Edge graph.now)) }
+{
+    sorted(alloc, graph)
+}
+
+/// Whether some vertex has a path of edges, at least one, back to itself.
+pub fn has_cycle(alloc: Global, graph: &Graph) -> Result<bool, AllocError>
+    ensures { IfOk result (λ b. MatchBool b (IsCyclic (Edge graph.now)) (IsAcyclic graph.now)) }
+{
+    let count = graph.vertex_count() as usize;
+    let order = sorted(alloc, graph)?;
+    Ok(order.len() < count)
+}
+
+// The vertices in an order in which each stands after its parents, or fewer, where a cycle stands in the way.
+fn sorted(alloc: Global, graph: &Graph) -> Result<Vec<u32>, AllocError>
+    ensures { IfOk result (λ order. IsSortedOrStuck graph.now order.items) }
 {
     let count = graph.vertex_count() as usize;
     let mut marks = vec![in alloc; false; count]?;

@@ -128,7 +128,7 @@ fn place_of(list: &[Record], path: &[u32]) -> usize
 }
 
 // Where the record of the path stands, or where it would.
-fn search(list: &[Record], path: &[u32]) -> Result<usize, usize>
+pub(crate) fn search(list: &[Record], path: &[u32]) -> Result<usize, usize>
     requires { InPathOrder (map read_record list.now) }
     ensures found { IfOk result (λ t. (t < length list.now) × ((part_nth (parts_in list.now) t).path ≡ path.now)) }
     ensures absent { IfErr result (λ _. IsThere (parts_in list.now) path.now → ⊥) }

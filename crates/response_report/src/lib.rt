@@ -7,6 +7,9 @@ mod report;
 mod row;
 mod text;
 
+#[cfg(test)]
+mod tests;
+
 pub use bound::response_is_bounded;
 pub use report::rows;
 pub use row::{ReportStop, Row};

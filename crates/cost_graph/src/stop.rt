@@ -1,0 +1,29 @@
+use std::alloc::AllocError;
+
+/// Whether a graph is well formed.
+#[derive(Clone, Copy, Debug, PartialEq, Eq)]
+pub enum Shape {
+    Good,
+    /// The first thread that is not well formed, and the first vertex, by number, that is an ancestor of its last
+    /// vertex and not of its first and whose priority the thread's is not at most.
+    Bad(u32, u32),
+}
+
+/// Why it was not found out.
+#[derive(Clone, Copy, Debug, PartialEq, Eq)]
+pub enum ShapeStop {
+    /// Threads times vertices exceeds 134,217,728.
+    TooLarge,
+    OutOfMemory,
+}
+
+impl From<AllocError> for ShapeStop {
+    ghost use Rattle.std.specs.Prelude.{◌≡◌};
+    ghost use Rattle.cost_graph.specs.declared.stop.ShapeStop.TheVariants.{OutOfMemory};
+
+    ghost from_gives = { λ _ stop. stop ≡ OutOfMemory };
+
+    fn from(_: AllocError) -> ShapeStop {
+        ShapeStop::OutOfMemory
+    }
+}

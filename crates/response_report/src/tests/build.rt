@@ -1,0 +1,177 @@
+//! Graphs and orders from short rows.
+ghost use Rattle.std.specs.Prelude.{◌<◌, ◌^◌, ◌↔◌, length, map, IsTrue};
+ghost use Rattle.std.specs.List.{All};
+ghost use Rattle.priml_syntax.specs.Paths.{Precedes};
+ghost use Rattle.priml_syntax.specs.Read.{read_record};
+ghost use Rattle.priml_syntax.specs.Records.{InPathOrder};
+ghost use Rattle.priority_order.specs.Order.{IsWithin};
+ghost use Rattle.cost_graph.specs.declared.graph.Thread.{Thread as TheThread};
+ghost use Rattle.cost_graph.specs.Graph.{IsAcyclic};
+
+use cost_graph::{Graph, are_finished, has_cycle};
+use priml_syntax::{Event, Outcome, Path, Record, Records, Value};
+use priority_order::Order;
+use std::alloc::Global;
+use std::cmp::Ordering;
+use std::test::Fail;
+
+/// An event of a row; a Join has the number of a child of the root.
+#[derive(Clone, Copy)]
+pub(crate) enum Step {
+    Start,
+    Plain,
+    Spawn,
+    Join(u32),
+    End,
+}
+
+/// A thread: its number among the children of the root, if it is not the root; its priority; its events.
+pub(crate) type Row<'a> = (Option<u32>, u32, &'a [Step]);
+
+/// A graph without cycles, and an order with the priorities of its threads.
+#[derive(Drop)]
+pub(crate) struct Scene {
+    pub(crate) graph: Graph,
+    pub(crate) order: Order,
+    ghost acyclic: { IsAcyclic graph },
+    ghost priorities: { All (λ (t : TheThread). t.priority < length order.names) graph.threads },
+}
+
+/// The scene of the rows, over the order of these names and pairs.
+pub(crate) fn make_scene(
+    alloc: Global,
+    rows: &[Row],
+    names: &[&str],
+    pairs: &[(u32, u32)],
+) -> Result<Scene, Fail> {
+    let mut list = Vec::new(alloc);
+    for row in rows {
+        list.push(record_of(alloc, row)?)?;
+    }
+    scene_of(alloc, list, names, pairs)
+}
+
+/// The scene of the records.
+pub(crate) fn scene_of(
+    alloc: Global,
+    list: Vec<Record>,
+    names: &[&str],
+    pairs: &[(u32, u32)],
+) -> Result<Scene, Fail> {
+    if !are_in_order(list.as_slice()) {
+        return Err(Fail::new("records are not in order"));
+    }
+    let records = Records::of(list);
+    let order = order_of(alloc, names, pairs)?;
+    if !are_finished(alloc, &records)? {
+        return Err(Fail::new("records are not finished"));
+    }
+    let graph = Graph::of_records(alloc, &records)?;
+    if has_cycle(alloc, &graph)? {
+        return Err(Fail::new("a cycle"));
+    }
+    if !has_priorities(&order, &graph) {
+        return Err(Fail::new("a priority without a name"));
+    }
+    Ok(Scene { graph, order })
+}
+
+/// The record of a thread that ended with the value ().
+pub(crate) fn ended(path: Path, prio: u32, events: Vec<Event>) -> Record {
+    Record {
+        path,
+        prio,
+        events,
+        outcome: Outcome::Value(Value::Unit),
+    }
+}
+
+/// The path of the k-th child of the root, or of the root.
+pub(crate) fn path_of(alloc: Global, child: Option<u32>) -> Result<Path, Fail> {
+    let root = Path::root(alloc)?;
+    match child {
+        Some(k) => Ok(root.child(alloc, k)?),
+        None => Ok(root),
+    }
+}
+
+fn record_of(alloc: Global, row: &Row) -> Result<Record, Fail> {
+    let (child, prio, steps) = *row;
+    let mut events = Vec::new(alloc);
+    for step in steps {
+        events.push(event_of(alloc, *step)?)?;
+    }
+    Ok(ended(path_of(alloc, child)?, prio, events))
+}
+
+fn event_of(alloc: Global, step: Step) -> Result<Event, Fail> {
+    match step {
+        Step::Start => Ok(Event::Start),
+        Step::Plain => Ok(Event::Plain),
+        Step::Spawn => Ok(Event::Spawn),
+        Step::Join(k) => Ok(Event::Join(path_of(alloc, Some(k))?)),
+        Step::End => Ok(Event::End),
+    }
+}
+
+// The order of these names and pairs, whose numbers are below the count of names.
+fn order_of(alloc: Global, names: &[&str], pairs: &[(u32, u32)]) -> Result<Order, Fail> {
+    let mut list = Vec::new(alloc);
+    for name in names {
+        list.push(String::from_str(alloc, name)?)?;
+    }
+    if !are_within(list.len(), pairs) {
+        return Err(Fail::new("a pair without a name"));
+    }
+    Ok(Order::build(alloc, &list, pairs)?)
+}
+
+// Whether the numbers of the pairs are below the count, and there are fewer than 2^32.
+fn are_within(count: usize, pairs: &[(u32, u32)]) -> bool
+    ensures within { IsTrue result → IsWithin count pairs.now }
+    ensures few { IsTrue result → length pairs.now < 2 ^ 32 }
+{
+    for pair in pairs {
+        if pair.0 as usize >= count {
+            return false;
+        }
+        if pair.1 as usize >= count {
+            return false;
+        }
+    }
+    pairs.len() <= u32::MAX as usize
+}
+
+// Whether each record stands before the next.
+fn are_in_order(list: &[Record]) -> bool
+    ensures { IsTrue result → InPathOrder (map read_record list.now) }
+{
+    for next in 1..list.len() {
+        if !is_before(&list[next - 1].path, &list[next].path) {
+            return false;
+        }
+    }
+    true
+}
+
+fn is_before(a: &Path, b: &Path) -> bool
+    ensures { IsTrue result ↔ Precedes a.now b.now }
+{
+    match a.compare(b) {
+        Ordering::Less => true,
+        Ordering::Equal => false,
+        Ordering::Greater => false,
+    }
+}
+
+// Whether the order has the priorities of the threads.
+fn has_priorities(order: &Order, graph: &Graph) -> bool
+    ensures { IsTrue result → All (λ (t : TheThread). t.priority < length order.now.names) graph.now.threads }
+{
+    for t in 0..graph.thread_count() {
+        if graph.priority_of(t) >= order.count() {
+            return false;
+        }
+    }
+    true
+}

@@ -1,0 +1,226 @@
+//! Plans, verdicts and rows of small graphs.
+ghost use Rattle.std.specs.Prelude.{◌<◌, ◌≤◌, IfOk};
+ghost use Rattle.std.specs.List.{All};
+ghost use Rattle.cost_graph.specs.Graph.{vertex_total, IsWellFormed};
+ghost use Rattle.prompt_checker.specs.Read.{steps_of};
+
+use crate::report::rows;
+use crate::row::Row as Line;
+use crate::tests::build::{Row, Scene, Step, make_scene};
+use crate::text::response_text;
+use cost_graph::{Shape, well_formed};
+use prompt_checker::{
+    Flaw, FlawKind, Schedule, ScheduleFault, Verdict, judge, plan_text, read_schedule,
+};
+use prompt_planner::plan;
+use std::alloc::{AllocError, Global};
+use std::test::Fail;
+
+// A root that goes on beside its child, in these priorities.
+const APART: [&[Step]; 2] = [
+    &[Step::Start, Step::Spawn, Step::End],
+    &[Step::Start, Step::End],
+];
+
+// The scene of a root and a child with these events and priorities.
+fn pair(
+    alloc: Global,
+    root: &[Step],
+    child: &[Step],
+    prios: (u32, u32),
+    names: &[&str],
+    pairs: &[(u32, u32)],
+) -> Result<Scene, Fail> {
+    let list: [Row; 2] = [(None, prios.0, root), (Some(0), prios.1, child)];
+    make_scene(alloc, &list, names, pairs)
+}
+
+// A root of the priority ui and a child of bg, which is below.
+fn urgent_root(alloc: Global) -> Result<Scene, Fail> {
+    pair(alloc, APART[0], APART[1], (1, 0), &["bg", "ui"], &[(0, 1)])
+}
+
+// A root and a child of unrelated priorities.
+fn unrelated(alloc: Global) -> Result<Scene, Fail> {
+    pair(alloc, APART[0], APART[1], (0, 1), &["a", "b"], &[])
+}
+
+// A root of the priority bg that joins a child of ui.
+fn urgent_child(alloc: Global) -> Result<Scene, Fail> {
+    let root = [Step::Start, Step::Spawn, Step::Join(0), Step::End];
+    pair(alloc, &root, APART[1], (0, 1), &["bg", "ui"], &[(0, 1)])
+}
+
+// Three threads of one priority: the root joins 0.1, which joins 0.0.
+fn three(alloc: Global) -> Result<Scene, Fail> {
+    let root = [
+        Step::Start,
+        Step::Spawn,
+        Step::Spawn,
+        Step::Join(1),
+        Step::End,
+    ];
+    let last = [Step::Start, Step::Join(0), Step::End];
+    let list: [Row; 3] = [(None, 0, &root), (Some(0), 0, APART[1]), (Some(1), 0, &last)];
+    make_scene(alloc, &list, &["p"], &[])
+}
+
+// The canonical plan.
+pub(crate) fn plan_of(alloc: Global, scene: &Scene, cores: u32) -> Result<Schedule, AllocError>
+    requires { 1 ≤ cores }
+    ensures within { IfOk result (λ s. All (λ step. All (λ v. v < vertex_total scene.now.graph) step) (steps_of s)) }
+{
+    plan(alloc, &scene.graph, &scene.order, cores)
+}
+
+// The rows under a schedule, which has to be prompt, of a graph, which has to be well formed.
+fn rows_of(
+    alloc: Global,
+    scene: &Scene,
+    cores: u32,
+    schedule: &Schedule,
+) -> Result<Vec<Line>, Fail>
+    requires within { All (λ step. All (λ v. v < vertex_total scene.now.graph) step) (steps_of schedule.now) }
+    requires some { 1 ≤ cores }
+    requires few { cores ≤ 1024 }
+{
+    match well_formed(alloc, &scene.graph, &scene.order)? {
+        Shape::Good => prompt_rows(alloc, scene, cores, schedule),
+        Shape::Bad(_, _) => Err(Fail::new("not well formed")),
+    }
+}
+
+// The rows under a schedule, which has to be prompt.
+fn prompt_rows(
+    alloc: Global,
+    scene: &Scene,
+    cores: u32,
+    schedule: &Schedule,
+) -> Result<Vec<Line>, Fail>
+    requires well_formed { IsWellFormed scene.now.graph scene.now.order.pairs }
+    requires within { All (λ step. All (λ v. v < vertex_total scene.now.graph) step) (steps_of schedule.now) }
+    requires some { 1 ≤ cores }
+    requires few { cores ≤ 1024 }
+{
+    match judge(alloc, &scene.graph, &scene.order, cores, schedule)? {
+        Verdict::Prompt => Ok(rows(alloc, &scene.graph, &scene.order, cores, schedule)?),
+        Verdict::Flaw(_) => Err(Fail::new("not prompt")),
+    }
+}
+
+fn flaw(step: u64, kind: FlawKind) -> Verdict {
+    Verdict::Flaw(Flaw { step, kind })
+}
+
+#[test]
+fn plan_of_an_urgent_root(rt: HostRuntime) -> Result<(), Fail> {
+    let scene = urgent_root(rt.alloc())?;
+    let plan = plan_of(rt.alloc(), &scene, 2)?;
+    let text = plan_text(rt.alloc(), &scene.graph, &plan)?;
+    assert_eq!(rt; text.as_slice(), b"0:0\n0:1\n0:2 0.0:0\n0.0:1\n".as_slice());
+    Ok(())
+}
+
+// The vertices are numbered 0:0, 0:1, 0:2, 0.0:0, 0.0:1.
+#[test]
+fn verdicts(rt: HostRuntime) -> Result<(), Fail> {
+    let scene = urgent_root(rt.alloc())?;
+    let cases = [
+        (1, "0:0\n0:1\n0:2\n0.0:0\n0.0:1\n", Verdict::Prompt),
+        (1, "0:0\n0:1\n0.0:0\n0:2\n0.0:1\n", flaw(3, FlawKind::Inverted(3, 2))),
+        (1, "0:0 0:1\n", flaw(1, FlawKind::TooWide)),
+        (1, "0:0 0:0\n", flaw(1, FlawKind::TooWide)),
+        (1, "0:0\n0:1\n0:2\n0.0:0\n0.0:1\n\n", flaw(6, FlawKind::EmptyStep)),
+        (1, "", flaw(1, FlawKind::Unfinished(0))),
+        (1, "0:0\n0:1\n0:2\n0.0:0\n", flaw(5, FlawKind::Unfinished(4))),
+        (2, "0:0\n0:1\n0:2\n", flaw(3, FlawKind::IdleCore(3))),
+        (2, "0:0\n0:1\n0:2 0:2\n", flaw(3, FlawKind::Twice(2))),
+        (2, "0:0\n0:1\n0:2 0.0:0\n", flaw(4, FlawKind::Unfinished(4))),
+        (2, "0:0 0:1\n", flaw(1, FlawKind::NotReady(1))),
+        (3, "0:1 0:0 0:0\n", flaw(1, FlawKind::Twice(0))),
+    ];
+    for (cores, text, want) in cases {
+        let schedule = read_schedule(rt.alloc(), text.as_bytes(), &scene.graph)?;
+        let verdict = judge(rt.alloc(), &scene.graph, &scene.order, cores, &schedule)?;
+        assert_eq!(rt; verdict, want, "{text}");
+    }
+    Ok(())
+}
+
+#[test]
+fn faults_of_schedule_texts(rt: HostRuntime) -> Result<(), Fail> {
+    let scene = urgent_root(rt.alloc())?;
+    let cases = [
+        ("0:9\n", ScheduleFault::UnknownVertex(1)),
+        ("0;0\n", ScheduleFault::BadText(1)),
+        ("0:0\n0.7:0\n", ScheduleFault::UnknownVertex(2)),
+        ("0:0\n0:1\n1:0\n", ScheduleFault::BadText(3)),
+        ("0:00\n", ScheduleFault::BadText(1)),
+        ("0:0 0:9 0;0\n", ScheduleFault::BadText(1)),
+        ("0:0\n\n0:9\n0;0\n", ScheduleFault::UnknownVertex(3)),
+    ];
+    for (text, want) in cases {
+        let fault = read_schedule(rt.alloc(), text.as_bytes(), &scene.graph).err();
+        assert_eq!(rt; fault, Some(want), "{text}");
+    }
+    Ok(())
+}
+
+#[test]
+fn reports_of_plans(rt: HostRuntime) -> Result<(), Fail> {
+    let cases = [
+        (
+            urgent_root(rt.alloc())?,
+            1,
+            "cores 1\nsteps 5\nresponse 0 ui time 3 work 3 span 3 bound 3\nresponse 0.0 bg time 3 work 3 span 2 bound 3\n",
+        ),
+        (
+            urgent_root(rt.alloc())?,
+            2,
+            "cores 2\nsteps 4\nresponse 0 ui time 3 work 3 span 3 bound 3\nresponse 0.0 bg time 2 work 3 span 2 bound 2\n",
+        ),
+        (
+            urgent_child(rt.alloc())?,
+            2,
+            "cores 2\nsteps 6\nresponse 0 bg time 6 work 6 span 6 bound 6\nresponse 0.0 ui time 2 work 2 span 2 bound 2\n",
+        ),
+        (
+            unrelated(rt.alloc())?,
+            1,
+            "cores 1\nsteps 5\nresponse 0 a time 3 work 5 span 3 bound 5\nresponse 0.0 b time 3 work 3 span 2 bound 3\n",
+        ),
+        (
+            three(rt.alloc())?,
+            1,
+            "cores 1\nsteps 10\nresponse 0 p time 10 work 10 span 8 bound 10\nresponse 0.0 p time 3 work 4 span 2 bound 4\nresponse 0.1 p time 5 work 5 span 4 bound 5\n",
+        ),
+    ];
+    for (scene, cores, want) in cases {
+        let plan = plan_of(rt.alloc(), &scene, cores)?;
+        let text = report(rt.alloc(), &scene, cores, &plan)?;
+        assert_eq!(rt; text.as_slice(), want.as_bytes(), "{want}");
+    }
+    Ok(())
+}
+
+#[test]
+fn report_of_a_schedule(rt: HostRuntime) -> Result<(), Fail> {
+    let scene = unrelated(rt.alloc())?;
+    let text = b"0:0\n0:1\n0.0:0\n0.0:1\n0:2\n".as_slice();
+    let schedule = read_schedule(rt.alloc(), text, &scene.graph)?;
+    let text = report(rt.alloc(), &scene, 1, &schedule)?;
+    let want = "cores 1\nsteps 5\nresponse 0 a time 5 work 5 span 3 bound 5\nresponse 0.0 b time 2 work 3 span 2 bound 3\n";
+    assert_eq!(rt; text.as_slice(), want.as_bytes());
+    Ok(())
+}
+
+// The text of the rows.
+fn report(alloc: Global, scene: &Scene, cores: u32, schedule: &Schedule) -> Result<Vec<u8>, Fail>
+    requires within { All (λ step. All (λ v. v < vertex_total scene.now.graph) step) (steps_of schedule.now) }
+    requires some { 1 ≤ cores }
+    requires few { cores ≤ 1024 }
+{
+    let rows = rows_of(alloc, scene, cores, schedule)?;
+    let steps = schedule.steps.len() as u64;
+    Ok(response_text(alloc, &scene.graph, &scene.order, cores, steps, &rows)?)
+}

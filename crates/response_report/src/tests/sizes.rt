@@ -1,0 +1,152 @@
+//! Large graphs, and vertices of many children.
+ghost use Rattle.std.specs.Prelude.{IsTrue};
+ghost use Rattle.cost_graph.specs.Graph.{IsWellFormed};
+
+use crate::report::rows;
+use crate::row::{ReportStop, Row};
+use crate::tests::build::{Scene, ended, path_of, scene_of};
+use crate::tests::schedules::plan_of;
+use priml_syntax::{Event, Record};
+use prompt_checker::{Verdict, judge};
+use prompt_planner::plan;
+use std::alloc::{AllocError, Global};
+use std::test::Fail;
+
+// How the threads of a large graph join one another: the root joins each child, or each child joins the one before and
+// the root the last.
+#[derive(Clone, Copy, PartialEq, Eq)]
+enum Shape {
+    Fan,
+    Chain,
+}
+
+// A root and so many children, each of so many events.
+fn large(alloc: Global, shape: Shape, children: u32, events: u32) -> Result<Scene, Fail> {
+    let mut list = Vec::new(alloc);
+    list.push(root_of(alloc, shape, children)?)?;
+    for k in 0..children {
+        list.push(child_of(alloc, shape, k, events)?)?;
+    }
+    scene_of(alloc, list, &["p"], &[])
+}
+
+fn root_of(alloc: Global, shape: Shape, children: u32) -> Result<Record, Fail> {
+    let mut events = Vec::new(alloc);
+    events.push(Event::Start)?;
+    for _ in 0..children {
+        events.push(Event::Spawn)?;
+    }
+    for k in 0..children {
+        if shape == Shape::Fan || k + 1 == children {
+            events.push(Event::Join(path_of(alloc, Some(k))?))?;
+        }
+    }
+    events.push(Event::End)?;
+    Ok(ended(path_of(alloc, None)?, 0, events))
+}
+
+fn child_of(alloc: Global, shape: Shape, k: u32, count: u32) -> Result<Record, Fail> {
+    let mut events = Vec::new(alloc);
+    events.push(Event::Start)?;
+    for n in 2..count {
+        if n == 2 && shape == Shape::Chain && k > 0 {
+            events.push(Event::Join(path_of(alloc, Some(k - 1))?))?;
+        } else {
+            events.push(Event::Plain)?;
+        }
+    }
+    events.push(Event::End)?;
+    Ok(ended(path_of(alloc, Some(k))?, 0, events))
+}
+
+// Whether the order has one priority; then the graph is well formed.
+fn has_one_priority(scene: &Scene) -> bool
+    ensures { IsTrue result → IsWellFormed scene.now.graph scene.now.order.pairs }
+{
+    let _count = scene.graph.vertex_count();
+    scene.order.count() == 1
+}
+
+// The rows under the plan on one core.
+fn rows_of(alloc: Global, scene: &Scene) -> Result<Vec<Row>, Fail> {
+    let plan = plan(alloc, &scene.graph, &scene.order, 1)?;
+    if !has_one_priority(scene) {
+        return Err(Fail::new("more than one priority"));
+    }
+    Ok(rows(alloc, &scene.graph, &scene.order, 1, &plan)?)
+}
+
+// On one core the plan has a step for each vertex.
+#[test]
+fn plans_of_large_graphs(rt: HostRuntime) -> Result<(), Fail> {
+    // 1,300 children of 75 events
+    let cases = [(Shape::Fan, 100_102), (Shape::Chain, 98_803)];
+    for (shape, vertices) in cases {
+        let scene = large(rt.alloc(), shape, 1_300, 75)?;
+        assert_eq!(rt; scene.graph.vertex_count(), vertices);
+        let steps = plan_steps(rt.alloc(), &scene)?;
+        assert_eq!(rt; steps, Some(vertices as usize));
+    }
+    Ok(())
+}
+
+// How many steps the plan on one core has, where the judge finds it prompt.
+fn plan_steps(alloc: Global, scene: &Scene) -> Result<Option<usize>, AllocError> {
+    let plan = plan_of(alloc, scene, 1)?;
+    match judge(alloc, &scene.graph, &scene.order, 1, &plan)? {
+        Verdict::Prompt => Ok(Some(plan.steps.len())),
+        Verdict::Flaw(_) => Ok(None),
+    }
+}
+
+// On one core the root's response is the number of vertices, and so are its work and its bound.
+#[test]
+fn reports_of_large_graphs(rt: HostRuntime) -> Result<(), Fail> {
+    // 100 children of 1,000 events
+    let cases = [(Shape::Fan, 100_202, 1_103), (Shape::Chain, 100_103, 99_905)];
+    for (shape, vertices, span) in cases {
+        let scene = large(rt.alloc(), shape, 100, 1_000)?;
+        let rows = rows_of(rt.alloc(), &scene)?;
+        assert_eq!(rt; rows.len(), 101);
+        let Some(root) = rows.first() else {
+            return Err(Fail::new("no row"));
+        };
+        assert_eq!(rt; (root.response, root.work), (vertices, vertices));
+        assert_eq!(rt; (root.span, root.bound), (span, vertices));
+    }
+    Ok(())
+}
+
+// A child that the root joins 1,000 times, so that its last vertex has 1,000 children.
+#[test]
+fn joined_often(rt: HostRuntime) -> Result<(), Fail> {
+    let mut events = Vec::new(rt.alloc());
+    events.push(Event::Start)?;
+    events.push(Event::Spawn)?;
+    for _ in 0..1_000 {
+        events.push(Event::Join(path_of(rt.alloc(), Some(0))?))?;
+    }
+    events.push(Event::End)?;
+    let mut list = Vec::new(rt.alloc());
+    list.push(ended(path_of(rt.alloc(), None)?, 0, events))?;
+    list.push(child_of(rt.alloc(), Shape::Fan, 0, 2)?)?;
+    let scene = scene_of(rt.alloc(), list, &["p"], &[])?;
+    let mut sizes = Vec::new(rt.alloc());
+    for row in rows_of(rt.alloc(), &scene)? {
+        sizes.push((row.response, row.work, row.span, row.bound))?;
+    }
+    assert_eq!(rt; sizes.as_slice(), [(1_005, 1_005, 1_005, 1_005), (2, 2, 2, 2)].as_slice());
+    Ok(())
+}
+
+// 1,351 threads and 103,952 vertices are too many for rows.
+#[test]
+fn too_large_for_rows(rt: HostRuntime) -> Result<(), Fail> {
+    let scene = large(rt.alloc(), Shape::Fan, 1_350, 75)?;
+    assert_eq!(rt; scene.graph.vertex_count(), 103_952);
+    let plan = plan(rt.alloc(), &scene.graph, &scene.order, 1)?;
+    assert!(rt; has_one_priority(&scene));
+    let stop = rows(rt.alloc(), &scene.graph, &scene.order, 1, &plan).err();
+    assert!(rt; matches!(stop, Some(ReportStop::TooLarge)));
+    Ok(())
+}

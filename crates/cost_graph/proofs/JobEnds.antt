@@ -1,5 +1,5 @@
 -- Whether records are those of a finished job, by their events and kin one after the other.
-use Rattle.std.proofs.Common.{◌≡◌, ◌≢◌, ℕ, zero, suc, ◌+◌, ◌-◌, ◌<◌, ◌≤◌, ◌^◌, Bool, true, false, List, [], ◌∷◌, ◌++◌, length, take, drop, get_or, map, refl, sym, ap, ◌∙◌, subst, inl, inr, arith, ◌↔◌, below_more}
+use Rattle.std.proofs.Common.{◌≡◌, ◌≢◌, ℕ, zero, suc, ◌+◌, ◌-◌, ◌<◌, ◌≤◌, ◌^◌, Bool, true, false, List, [], ◌∷◌, length, take, get_or, map, refl, sym, ap, ◌∙◌, subst, inl, inr, arith, ◌↔◌, below_more}
 use Rattle.std.specs.Prelude.{Some, slice_get, nat_eq}
 use Rattle.std.specs.List.{Contains}
 use Rattle.std.proofs.lemmas.Bool.{ne_eqb, both_ways, cases_lt}
@@ -12,9 +12,9 @@ use Rattle.priml_syntax.specs.Paths.{child_path}
 use Rattle.priml_syntax.specs.Events.{one_spawn, spawns}
 use Rattle.priml_syntax.specs.Read.{read_record}
 use Rattle.priml_syntax.specs.Records.{InPathOrder}
-use Rattle.cost_graph.specs.Records.{Part, part_of, parts_in, part_at, event_total, IsThere, IsSpawned, AreFinished}
-use Rattle.cost_graph.specs.Tables.{part_nth, no_part, first_in, HasSpawn}
-use Rattle.cost_graph.specs.Finished.{Fits, AreEventsFit, HasSpawner, HasChildren, IsPartFinished}
+use Rattle.cost_graph.specs.Records.{Part, part_of, parts_in, part_at, event_total, IsThere, AreFinished}
+use Rattle.cost_graph.specs.Tables.{part_nth, first_in, HasSpawn}
+use Rattle.cost_graph.specs.Finished.{Fits, AreEventsFit, HasSpawner, IsPartFinished}
 use Rattle.cost_graph.proofs.Members.{decides_eq}
 use Rattle.cost_graph.proofs.Parts.{AreApart, parts_length, nth_of, apart_in, part_here, part_found, part_among, nth_among, part_of_member, events_few, first_more}
 use Rattle.cost_graph.proofs.Arrows.{child_same}

@@ -1,15 +1,15 @@
 -- A graph whose vertices stand in an order after their parents has no cycle.
-use Rattle.std.proofs.Common.{◌≡◌, ℕ, zero, suc, ◌+◌, ◌-◌, ◌<◌, ◌≤◌, Bool, true, false, List, [], ◌∷◌, ◌++◌, length, take, drop, get_or, refl, sym, ap, ◌∙◌, subst, inl, inr, arith, ◌⊎◌, min}
+use Rattle.std.proofs.Common.{◌≡◌, ℕ, zero, suc, ◌<◌, ◌≤◌, List, [], ◌∷◌, ◌++◌, length, take, drop, get_or, refl, sym, ◌∙◌, subst, inl, inr, arith}
 use Rattle.std.specs.Prelude.{nat_eq, nat_lt, MatchBool}
 use Rattle.std.specs.List.{Contains, IsDistinct}
-use Rattle.std.proofs.lemmas.List.{take-append-drop, get_or-take, length-take, take_more}
+use Rattle.std.proofs.lemmas.List.{take-append-drop, get_or-take, length-take}
 use Rattle.std.proofs.lemmas.List.Elements.{Contains-get_or}
-use Rattle.std.proofs.Math.Seq.{drop-cons, take-add}
+use Rattle.std.proofs.Math.Seq.{drop-cons}
 use Rattle.std.proofs.lemmas.Bool.{lt-ltb, le-ltb}
 use Rattle.cost_graph.specs.Walks.{Leads}
 use Rattle.cost_graph.specs.Graph.{CostGraph, vertex_total, Edge, IsGraph, IsAcyclic}
 use Rattle.cost_graph.specs.Order.{IsTopological, IsCyclic, IsSortedOrStuck}
-use Rattle.cost_graph.proofs.Members.{decides_eq, member_head, distinct_apart, in_take}
+use Rattle.cost_graph.proofs.Members.{member_head, distinct_apart}
 
 -- the place of a member of a front
 place_in : (order : List ℕ) (i u : ℕ) → Contains (take i order) u → (j : ℕ) × (j < i) × (j < length order) × (get_or order j 0 ≡ u)
@@ -55,7 +55,6 @@ module _ (g : CostGraph) (order : List ℕ) (topo : IsTopological g order) where
 
       vertex : (v w : ℕ) (ws : List ℕ) → Leads (Edge g) v (w ∷ ws) v → v < vertex_total g
       vertex v w ws l = ok.ends v w l.0
-
 
 -- whether the order is short tells whether there is a cycle
 pub cycle_told : (g : CostGraph) (order : List ℕ) (m n : ℕ) → IsGraph g → IsSortedOrStuck g order → m ≡ length order → n ≡ vertex_total g → MatchBool (nat_lt m n) (IsCyclic (Edge g)) (IsAcyclic g)

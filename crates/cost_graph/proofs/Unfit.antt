@@ -1,5 +1,5 @@
 -- What shows that a thread is not well formed.
-use Rattle.std.proofs.Common.{◌≡◌, ◌≢◌, ℕ, ◌+◌, ◌<◌, ◌≤◌, Bool, true, false, List, [], ◌∷◌, get_or, refl, sym, ◌∙◌, subst, arith, ◌↔◌}
+use Rattle.std.proofs.Common.{◌≡◌, ◌≢◌, ℕ, ◌<◌, ◌≤◌, Bool, true, false, List, [], ◌∷◌, get_or, refl, sym, ◌∙◌, subst, arith, ◌↔◌}
 use Rattle.std.specs.Prelude.{IsTrue, MatchBool, not}
 use Rattle.std.proofs.lemmas.Bool.{both_ways}
 use Rattle.priority_order.specs.Order.{AtMost}
@@ -12,8 +12,8 @@ use Rattle.cost_graph.proofs.Ends.{last_below}
 
 pub marked_ancestor : (g : CostGraph) (marks : List Bool) (t u : ℕ) (b : Bool) → AreMarked g (λ v. IsProperAncestor g v t) marks → u < vertex_total g → u ≢ t → b ≡ get_or marks u false → IsTrue b ↔ IsAncestor g u t
 marked_ancestor g marks t u b m lt other is = (
-    λ h. ((m.are u lt).0 (sym is ∙ h)).0,
-    λ above. is ∙ (m.are u lt).1 (above, other),
+  λ h. ((m.are u lt).0 (sym is ∙ h)).0,
+  λ above. is ∙ (m.are u lt).1 (above, other),
 )
 
 -- an ancestor is a vertex

@@ -1,7 +1,7 @@
-use Rattle.std.proofs.Common.{◌≡◌, ◌<◌, length, false, true, refl, arith, rules}
+use Rattle.std.proofs.Common.{◌≡◌, ◌<◌, length, false, true, arith, rules}
 use Rattle.std.proofs.lemmas.Bool.{false≢true, both_ways}
 use Rattle.cost_graph.specs.Records.{parts_in}
-use Rattle.cost_graph.proofs.JobEnds.{event_at, fit_on, fit_all}
+use Rattle.cost_graph.proofs.JobEnds.{event_at, fit_on}
 use Rattle.cost_graph.proofs.finished.are_events_fit.Goals as goal
 
 pub returns-then-not-fits : goal.returns-then-not-fits

@@ -1,6 +1,6 @@
-use Rattle.std.proofs.Common.{◌≡◌, ◌<◌, ◌^◌, length, false, true, refl, sym, subst, arith, rules}
+use Rattle.std.proofs.Common.{◌≡◌, false, true, refl, sym, subst, arith, rules}
 use Rattle.std.proofs.lemmas.Bool.{false≢true, both_ways}
-use Rattle.cost_graph.specs.Records.{parts_in, event_total, AreFinished}
+use Rattle.cost_graph.specs.Records.{parts_in, AreFinished}
 use Rattle.cost_graph.proofs.Parts.{parts_length}
 use Rattle.cost_graph.proofs.JobEnds.{record_few, not_finished, finished_on, all_finished, each_at}
 use Rattle.cost_graph.proofs.finished.are_finished.Goals as goal
@@ -16,7 +16,7 @@ returns-then-not-branch c =
     let lacks : c.in_ok-is_part_finished.field-0 ≡ false = search rules in (
       λ e. absurd (false≢true e),
       λ h. absurd (not_finished rs c.loop-one.one-index c.one-item.result c.loop-one-test.true c.one-item.is (λ p. both_ways c.in_ok-is_part_finished.field-0 lacks (c.in_ok-is_part_finished.ensures.1 p))
-        (subst (λ l. AreFinished (parts_in l)) (sym c.list-list.ensures.value) h)),
+          (subst (λ l. AreFinished (parts_in l)) (sym c.list-list.ensures.value) h)),
     )
 
 pub loop-one-preserved : goal.loop-one-preserved

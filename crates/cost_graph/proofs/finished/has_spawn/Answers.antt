@@ -20,8 +20,8 @@ returns-in-Ok c =
     let lt = c.in-Ok.ensures.found.0 in
     let there = there_at rs t c.args.path.now c.requires.order lt c.in-Ok.ensures.found.1 in
     let count : c.count_spawns.result ≡ spawns x.events =
-        c.count_spawns.ensures ∙ ap (λ (z : Record). spawns z.events.items) (sym c.index-list-t.is)
-        ∙ sym (ap (λ (y : Part). spawns y.events) (nth_of rs t c.index-list-t.result lt c.index-list-t.is)) in (
+    c.count_spawns.ensures ∙ ap (λ (z : Record). spawns z.events.items) (sym c.index-list-t.is)
+    ∙ sym (ap (λ (y : Part). spawns y.events) (nth_of rs t c.index-list-t.result lt c.index-list-t.is)) in (
       λ e. record { part = x; is = there; some = subst (λ n. c.args.k < n) count (ltb-true c.args.k c.count_spawns.result e) },
       λ h. lt-ltb c.args.k c.count_spawns.result (subst (λ n. c.args.k < n) (sym count) (subst (λ (y : Part). c.args.k < spawns y.events) (one_part h.is there) h.some)),
     )

@@ -1,4 +1,4 @@
-use Rattle.std.proofs.Common.{◌≡◌, ℕ, true, subst, rules, ◌↔◌}
+use Rattle.std.proofs.Common.{◌≡◌, true, subst, rules, ◌↔◌}
 use Rattle.std.specs.Prelude.{IsTrue, IfOk}
 use Rattle.priml_syntax.specs.Events.{spawns}
 use Rattle.std.proofs.lemmas.Result.{IfOk-weaker}

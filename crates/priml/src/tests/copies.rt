@@ -119,10 +119,12 @@ fn is_right_root(value: &Value) -> bool {
 fn paths(rt: HostRuntime) -> Result<(), Fail> {
     let mut path = Path::root(rt.alloc())?;
     assert_eq!(rt; path.parts(), [0u32].as_slice());
-    assert_eq!(rt; path.child(rt.alloc(), 0)?.parts(), [0u32, 0].as_slice());
-    while path.parts().len() < 31 {
+    let child = path.child(rt.alloc(), 0)?.copy(rt.alloc())?;
+    assert_eq!(rt; child.parts(), [0u32, 0].as_slice());
+    for _ in 0..30 {
         path = path.child(rt.alloc(), 0)?;
     }
+    assert_eq!(rt; path.parts().len(), 31);
     let last = path.child(rt.alloc(), 3)?;
     assert_eq!(rt; last.parts().len(), 32);
     assert!(rt; matches!(&last.child(rt.alloc(), 0), Err(PathStop::TooDeep)));

@@ -1,5 +1,5 @@
 -- What was read founds an answer.
-use Rattle.std.proofs.Common.{◌≡◌, ◌≢◌, ℕ, ◌+◌, ◌≤◌, ◌<◌, ◌⊎◌, inl, inr, List, [], ◌∷◌, ◌++◌, length, drop, Some, None, Result, Ok, Err, refl, sym, ap, subst, ◌∙◌, arith, append-nil, length-append}
+use Rattle.std.proofs.Common.{◌≡◌, ◌≢◌, ℕ, ◌+◌, ◌≤◌, ◌<◌, inl, inr, List, [], ◌++◌, length, drop, Some, None, Result, Ok, Err, refl, sym, ap, subst, ◌∙◌, arith, append-nil, length-append}
 use Rattle.std.proofs.Math.Seq.{drop-append_seam}
 use Rattle.std.specs.declared.option.Option.{Option}
 use Rattle.std.specs.Io.KnownBytes.{Consumes, IsAtEnd}
@@ -16,7 +16,7 @@ use Rattle.priml.specs.declared.refusal.Refusal.{Refusal}
 use Rattle.priml.specs.declared.refusal.Reply.{Reply}
 use Rattle.priml.specs.declared.refusal.Reply.TheVariants.{Text, WrongWords, Refused, ReadFault, OutOfMemory}
 use Rattle.priml.specs.Lines.{input_line, source_line, words_line, not_built_line}
-use Rattle.priml.specs.Answers.{IsCheck, IsCut, input_limit, Gives, Answers, OnInput, OnSections, OnText, OnProgram}
+use Rattle.priml.specs.Answers.{IsCut, input_limit, Gives, Answers, OnInput, OnSections, OnText, OnProgram}
 use Rattle.priml.specs.Headline.{SourceRun, IsRead, HasRead}
 use Rattle.priml.specs.Reply.{ReplyIs, RepliesRead, IsInputAnswered, IsFounded, IsLater, IsRefused, Refuses, line_of}
 
@@ -109,28 +109,28 @@ no_program text f x why some is = (later 3 x is (omega arith) (omega arith), OnT
   cause (source.TooMany at w) h n = h
   cause source.OutOfMemory h n = absurd (n refl)
 
-same_command : (r : Result Command WordsFault) (c d : Command) → r ≡ Ok c → r ≡ Ok d → c ≡ d
-same_command r c d e h = cc
+-- what was read of words is all that reading them gives
+abbrev OnlyReading : List (List ℕ) → Result Command WordsFault → Type 0
+OnlyReading words r = (other : Result Command WordsFault) → ReadsWords words other → other ≡ r
 
-not_both : (r : Result Command WordsFault) (f : WordsFault) (d : Command) → r ≡ Err f → r ≡ Ok d → ⊥
-not_both r f d e h = absurd cc
+same_command : (c d : Command) → ◌≡◌ {A = Result Command WordsFault} (Ok d) (Ok c) → c ≡ d
+same_command c d e = cc
 
--- what was read of words is their command, if they have one
-abbrev OnlyCommand : List (List ℕ) → Result Command WordsFault → Type 0
-OnlyCommand words r = (d : Command) → ReadsWords words (Ok d) → r ≡ Ok d
+not_both : (f : WordsFault) (d : Command) → ◌≡◌ {A = Result Command WordsFault} (Ok d) (Err f) → ⊥
+not_both f d e = absurd cc
 
 -- a refusal of words that are another command
-pub another_command : (words : List (List ℕ)) (c : Command) (x : Refusal) → ReadsWords words (Ok c) → OnlyCommand words (Ok c) → c ≢ command.Check → Refuses 2 not_built_line x → IsRefused words x
+pub another_command : (words : List (List ℕ)) (c : Command) (x : Refusal) → ReadsWords words (Ok c) → OnlyReading words (Ok c) → c ≢ command.Check → Refuses 2 not_built_line x → IsRefused words x
 another_command words c x reads only other is = record {
-  wrong = λ right. other (same_command (Ok c) c command.Check refl (only command.Check right));
+  wrong = λ right. other (same_command c command.Check (only (Ok command.Check) right));
   ends = is.ends;
   answered = λ input. Answers.not_built c reads other (record { ends = refl; says = is.says });
 }
 
 -- a refusal of words that are no command
-pub no_command : (words : List (List ℕ)) (f : WordsFault) (x : Refusal) → ReadsWords words (Err f) → OnlyCommand words (Err f) → Refuses 2 (words_line f) x → IsRefused words x
+pub no_command : (words : List (List ℕ)) (f : WordsFault) (x : Refusal) → ReadsWords words (Err f) → OnlyReading words (Err f) → Refuses 2 (words_line f) x → IsRefused words x
 no_command words f x reads only is = record {
-  wrong = λ right. not_both (Err f) f command.Check refl (only command.Check right);
+  wrong = λ right. not_both f command.Check (only (Ok command.Check) right);
   ends = is.ends;
   answered = λ input. Answers.wrong_words f reads (record { ends = refl; says = is.says });
 }

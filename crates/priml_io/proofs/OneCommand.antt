@@ -1,5 +1,5 @@
--- Words are one command at most.
-use Rattle.std.proofs.Common.{◌≡◌, ℕ, ◌+◌, ◌==◌, inl, inr, List, [], ◌∷◌, length, Result, Ok, Err, refl, sym, ap, ◌∙◌, arith, if◌then◌else◌}
+-- Words are one command at most, have one fault at most, and none where they are a command.
+use Rattle.std.proofs.Common.{◌≡◌, ◌≢◌, ℕ, ◌<◌, ◌+◌, ◌==◌, inl, inr, List, [], ◌∷◌, length, Result, Ok, Err, refl, sym, ap, subst, ◌∙◌, arith, if◌then◌else◌}
 use Rattle.std.specs.Prelude.{get_or}
 use Rattle.priml_io.specs.declared.words.Command.{Command}
 use Rattle.priml_io.specs.declared.words.Command.TheVariants as command
@@ -7,7 +7,7 @@ use Rattle.priml_io.specs.declared.words.Name.{Name}
 use Rattle.priml_io.specs.declared.words.Name.TheVariants as named
 use Rattle.priml_io.specs.declared.words.WordsFault.{WordsFault}
 use Rattle.priml_io.specs.declared.words.WordsFault.TheVariants as fault
-use Rattle.priml_io.specs.Words.{ReadsWords, AreNumbers, HasFault, HasFirstFault, IsNumber, word_of, word_at, name_of, numbers_of, bounds}
+use Rattle.priml_io.specs.Words.{ReadsWords, IsCommandLine, AreNumbers, HasFault, HasFirstFault, IsNumber, value_of, word_of, word_at, name_of, numbers_of, bounds}
 
 -- the name of a command by the first two letters of its word
 by_letters : ℕ → ℕ → Name
@@ -100,3 +100,79 @@ module _ (words : List (List ℕ)) (c : Command) (is : ReadsWords words (Ok c)) 
   only_command (Err fault.WrongCount) h = absurd (h.3 (is.0.1 ∙ ap (λ n. 1 + length (bounds n)) (sym (same h.0 h.2))))
   only_command (Err (fault.BadNumber k)) h = absurd (bad h.0 (fault.BadNumber k) (same h.0 h.1.0) h.2)
   only_command (Err (fault.OutOfRange k)) h = absurd (bad h.0 (fault.OutOfRange k) (same h.0 h.1.0) h.2)
+
+-- the k-th number's word has one fault at most
+one_number_fault : (word : List ℕ) (most k : ℕ) (f g : WordsFault) → HasFault word most k f → HasFault word most k g → f ≡ g
+one_number_fault word most k (fault.BadNumber i) (fault.BadNumber j) a b = ap fault.BadNumber (a.0 ∙ sym b.0)
+one_number_fault word most k (fault.BadNumber i) (fault.OutOfRange j) a b = absurd (a.1 b.1)
+one_number_fault word most k (fault.OutOfRange i) (fault.BadNumber j) a b = absurd (b.1 a.1)
+one_number_fault word most k (fault.OutOfRange i) (fault.OutOfRange j) a b = ap fault.OutOfRange (a.0 ∙ sym b.0)
+one_number_fault word most k fault.NoCommand g a b = absurd a
+one_number_fault word most k fault.UnknownCommand g a b = absurd a
+one_number_fault word most k fault.WrongCount g a b = absurd a
+one_number_fault word most k (fault.BadNumber i) fault.NoCommand a b = absurd b
+one_number_fault word most k (fault.BadNumber i) fault.UnknownCommand a b = absurd b
+one_number_fault word most k (fault.BadNumber i) fault.WrongCount a b = absurd b
+one_number_fault word most k (fault.OutOfRange i) fault.NoCommand a b = absurd b
+one_number_fault word most k (fault.OutOfRange i) fault.UnknownCommand a b = absurd b
+one_number_fault word most k (fault.OutOfRange i) fault.WrongCount a b = absurd b
+
+one_first_fault : (k : ℕ) (words : List (List ℕ)) (bs : List ℕ) (f g : WordsFault) → HasFirstFault k words bs f → HasFirstFault k words bs g → f ≡ g
+one_first_fault k words [] f g a b = absurd a
+one_first_fault k words (most ∷ bs) f g (inl a) (inl b) = one_number_fault (word_at words k) most k f g a b
+one_first_fault k words (most ∷ bs) f g (inl a) (inr b) = absurd (no_fault (word_at words k) most k (value_of (word_at words k)) f b.0 a)
+one_first_fault k words (most ∷ bs) f g (inr a) (inl b) = absurd (no_fault (word_at words k) most k (value_of (word_at words k)) g a.0 b)
+one_first_fault k words (most ∷ bs) f g (inr a) (inr b) = one_first_fault (k + 1) words bs f g a.1 b.1
+
+-- a fault of words is one of their count and their name, or of a number of a command line
+data Why (words : List (List ℕ)) (f : WordsFault) : Type 0 where
+  empty : length words ≡ 0 → f ≡ fault.NoCommand → Why words f
+  unknown : 0 < length words → ((n : Name) → ¬ (word_at words 0 ≡ word_of n)) → f ≡ fault.UnknownCommand → Why words f
+  count : (n : Name) → 0 < length words → word_at words 0 ≡ word_of n → length words ≢ 1 + length (bounds n) → f ≡ fault.WrongCount → Why words f
+  number : (n : Name) → IsCommandLine n words → HasFirstFault 1 words (bounds n) f → Why words f
+
+why : (words : List (List ℕ)) (f : WordsFault) → ReadsWords words (Err f) → Why words f
+why words fault.NoCommand h = empty h refl
+why words fault.UnknownCommand h = unknown h.0 h.1 refl
+why words fault.WrongCount h = count h.0 h.1 h.2 h.3 refl
+why words (fault.BadNumber k) h = number h.0 h.1 h.2
+why words (fault.OutOfRange k) h = number h.0 h.1 h.2
+
+module _ (words : List (List ℕ)) (f g : WordsFault) where
+  one_called : (m n : Name) → word_at words 0 ≡ word_of m → word_at words 0 ≡ word_of n → m ≡ n
+  one_called m n a b = one_name m n (sym a ∙ b)
+
+  one_count : (m n : Name) → m ≡ n → length words ≢ 1 + length (bounds m) → length words ≡ 1 + length (bounds n) → ⊥
+  one_count m n e wrong right = wrong (right ∙ ap (λ x. 1 + length (bounds x)) (sym e))
+
+  some_words : (n : Name) → IsCommandLine n words → length words ≡ 0 → ⊥
+  some_words n line none = let e = line.1 in omega (arith, e, none)
+
+  one_why : Why words f → Why words g → f ≡ g
+  one_why (empty a e) (empty b q) = e ∙ sym q
+  one_why (empty a e) (unknown b none q) = absurd (omega (arith, a, b))
+  one_why (empty a e) (count n b is wrong q) = absurd (omega (arith, a, b))
+  one_why (empty a e) (number n line h) = absurd (some_words n line a)
+  one_why (unknown a none e) (empty b q) = absurd (omega (arith, a, b))
+  one_why (unknown a none e) (unknown b never q) = e ∙ sym q
+  one_why (unknown a none e) (count n b is wrong q) = absurd (none n is)
+  one_why (unknown a none e) (number n line h) = absurd (none n line.0)
+  one_why (count m a is wrong e) (empty b q) = absurd (omega (arith, a, b))
+  one_why (count m a is wrong e) (unknown b none q) = absurd (none m is)
+  one_why (count m a is wrong e) (count n b other bad q) = e ∙ sym q
+  one_why (count m a is wrong e) (number n line h) = absurd (one_count m n (one_called m n is line.0) wrong line.1)
+  one_why (number m line h) (empty b q) = absurd (some_words m line b)
+  one_why (number m line h) (unknown b none q) = absurd (none m line.0)
+  one_why (number m line h) (count n b is wrong q) = absurd (one_count n m (one_called n m is line.0) wrong line.1)
+  one_why (number m line h) (number n other k) =
+      one_first_fault 1 words (bounds n) f g (subst (λ x. HasFirstFault 1 words (bounds x) f) (one_called m n line.0 other.0) h) k
+
+-- words have one fault at most
+pub one_words_fault : (words : List (List ℕ)) (f g : WordsFault) → ReadsWords words (Err f) → ReadsWords words (Err g) → f ≡ g
+one_words_fault words f g a b = one_why words f g (why words f a) (why words g b)
+
+-- reading words gives one result
+pub one_reading : (words : List (List ℕ)) (r s : Result Command WordsFault) → ReadsWords words r → ReadsWords words s → r ≡ s
+one_reading words r (Ok c) a b = only_command words c b r a
+one_reading words (Ok c) (Err g) a b = sym (only_command words c a (Err g) b)
+one_reading words (Err f) (Err g) a b = ap Err (one_words_fault words f g a b)

@@ -1,4 +1,4 @@
-ghost use Rattle.std.specs.Prelude.{◌≡◌, ◌+◌, ◌-◌, ◌^◌, ◌<◌, ◌≤◌, ◌∷◌, [], length, map, min, string_bytes, MatchOption, IfOk, IfErr, MatchBool};
+ghost use Rattle.std.specs.Prelude.{◌≡◌, ◌+◌, ◌-◌, ◌^◌, ◌<◌, ◌≤◌, ◌∷◌, [], length, map, min, string_bytes, Result, MatchOption, IfOk, IfErr, MatchBool};
 ghost use Rattle.priml_io.specs.declared.words.Name.{Name};
 ghost use Rattle.priml_io.specs.Words.{steps, cores, workers, quantum, samples, word_of, bounds, name_of, numbers_of, word_at, IsDigit, IsDigits, value_of, IsNumber, HasFault, AreNumbers, HasFirstFault, ReadsWords};
 
@@ -65,15 +65,15 @@ const QUANTUM: u64 = 1_000;
 const SAMPLES: u64 = 5_000;
 
 /// The command of these words, which are those after the program's own name. Of its numbers the first that is bad
-/// or out of range decides. Leading zeros are allowed.
+/// or out of range decides. Leading zeros are allowed. The words have no other result.
 pub fn read_words(words: &[String]) -> Result<Command, WordsFault>
     ensures reads { ReadsWords (map string_bytes words.now) result }
-    ensures only { (c : Command) → ReadsWords (map string_bytes words.now) (Ok c) → result ≡ Ok c }
+    ensures only { (other : Result Command WordsFault) → ReadsWords (map string_bytes words.now) other → other ≡ result }
 {
     read_line(words)
 }
 
-// The command of these words, the only one.
+// The command of these words.
 fn read_line(words: &[String]) -> Result<Command, WordsFault>
     ensures { ReadsWords (map string_bytes words.now) result }
 {

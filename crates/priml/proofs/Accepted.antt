@@ -1,5 +1,5 @@
 -- An answer of `check` accepts exactly the inputs whose program section stands for a typable program.
-use Rattle.std.proofs.Common.{◌≡◌, ◌↔◌, ℕ, ◌≤◌, ◌<◌, List, length, Some, None, sym, subst, arith}
+use Rattle.std.proofs.Common.{◌≡◌, ◌↔◌, ℕ, ◌≤◌, List, length, Some, None, subst, arith}
 use Rattle.std.specs.declared.option.Option.{Option}
 use Rattle.priml_io.proofs.OneCut.{one_cut, cut_right}
 use Rattle.priml_syntax.specs.Tree.{Tree}
@@ -10,7 +10,7 @@ use Rattle.priml.specs.Headline.{IsAccepted, AcceptsExactly}
 use Rattle.priml.specs.Reply.{IsInputAnswered}
 
 -- an input has one program section
-one_program : (input program other : List ℕ) → IsCut input program → IsCut input other → program ≡ other
+pub one_program : (input program other : List ℕ) → IsCut input program → IsCut input other → program ≡ other
 one_program input program other a b = (one_cut input program other a.0 b.0 a.1 b.1 a.2.0 b.2.0 a.2.1 b.2.1).0
 
 module _ (input : List ℕ) (status : ℕ) (text : List ℕ) where

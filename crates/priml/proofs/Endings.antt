@@ -1,24 +1,25 @@
 -- How a reply that was written ends a run.
-use Rattle.std.proofs.Common.{◌≡◌, ◌≢◌, ℕ, ◌<◌, ◌⊎◌, inl, inr, List, ◌++◌, Some, None, refl, sym, ap, subst, ◌∙◌, arith}
+use Rattle.std.proofs.Common.{◌≡◌, ◌≢◌, ℕ, ◌<◌, inl, inr, List, ◌++◌, Some, None, refl, sym, subst, ◌∙◌, arith}
 use Rattle.std.specs.declared.option.Option.{Option}
 use Rattle.priml.specs.declared.refusal.Refusal.{Refusal}
 use Rattle.priml.specs.declared.refusal.Reply.{Reply}
 use Rattle.priml.specs.declared.refusal.Reply.TheVariants.{Text, WrongWords, Refused, ReadFault, OutOfMemory}
 use Rattle.priml.specs.Lines.{read_fault_line, memory_line}
 use Rattle.priml.specs.Answers.{IsCheck, Answers}
-use Rattle.priml.specs.Headline.{SourceRun, SinkRun, IsAnswered, ReadFailed, WriteFailed, Appended, IsText, Began, Ends, AcceptsExactly}
+use Rattle.priml.specs.Headline.{SourceRun, SinkRun, IsAnswered, ReadFailed, WriteFailed, Appended, IsText, Ends, AcceptsExactly}
 use Rattle.priml.proofs.Accepted.{accepts_exactly}
+use Rattle.priml.proofs.OneAnswer.{the_answer}
 use Rattle.priml.specs.Reply.{Replies, IsInputAnswered, IsFounded, IsRefused, Wrote, line_of, reply_status, reply_text}
 
--- an answer to the input is one to right words and the input
+-- the answer to the input is the one to right words and the input
 checked : (words : List (List ℕ)) (before : Option (List ℕ)) (status : ℕ) (text : List ℕ) → IsCheck words → IsInputAnswered before status text → IsAnswered words before status text
 checked words None status text right a = tt
-checked words (Some input) status text right a = Answers.check right a
+checked words (Some input) status text right a = the_answer words input status text (Answers.check right a)
 
--- an answer to the words alone
+-- the answer to the words alone
 refused : (words : List (List ℕ)) (before : Option (List ℕ)) (status : ℕ) (text : List ℕ) → ((input : List ℕ) → Answers words input status text) → IsAnswered words before status text
 refused words None status text a = tt
-refused words (Some input) status text a = a input
+refused words (Some input) status text a = the_answer words input status text (a input)
 
 module _ (words : List (List ℕ)) (r : SourceRun) (w : SinkRun) (status : ℕ) where
   -- a write failed

@@ -1,4 +1,5 @@
 pub mod Accepted
 pub mod Endings
 pub mod Founded
+pub mod OneAnswer
 pub mod Pieces

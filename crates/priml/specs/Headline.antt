@@ -45,10 +45,15 @@ Appended w text = Grows w.before w.after text
 abbrev pub IsAnswer : ℕ → Type 0
 IsAnswer status = (status ≢ 8) × (status ≢ 9) × (status ≢ 10)
 
--- where the source told its bytes, this is an answer to the words and those bytes
+-- an answer to the words and the input, and the only one
+pub record IsTheAnswer (words : List (List ℕ)) (input : List ℕ) (status : ℕ) (text : List ℕ) : Type 0 where
+  pub is : Answers words input status text
+  pub only : (s : ℕ) (other : List ℕ) → Answers words input s other → (s ≡ status) × (other ≡ text)
+
+-- where the source told its bytes, this is the answer to the words and those bytes
 abbrev pub IsAnswered : List (List ℕ) → Option (List ℕ) → ℕ → List ℕ → Type 0
 IsAnswered words None status text = Unit {0}
-IsAnswered words (Some input) status text = Answers words input status text
+IsAnswered words (Some input) status text = IsTheAnswer words input status text
 
 -- the program section of the input stands for a typable program
 pub record IsAccepted (input : List ℕ) : Type 0 where
@@ -89,7 +94,7 @@ pub record Began (words : List (List ℕ)) (r : SourceRun) (w : SinkRun) : Type 
 
 -- the run of the program on these words ended with this status
 pub record Ends (words : List (List ℕ)) (r : SourceRun) (w : SinkRun) (status : ℕ) : Type 0 where
-  -- an answer was appended, whatever faults rose
+  -- the answer was appended, whatever faults rose
   pub answered : IsAnswer status → (text : List ℕ) × IsAnswered words r.before status text × Appended w text
   -- `check` accepts exactly the typable programs
   pub accepts : IsAnswer status → IsCheck words → AcceptsExactly r.before status

@@ -13,6 +13,7 @@ Hostile texts, of which a ratio of 20 is the most that may be:
   type      one type of half a million nodes for each megabyte and a half
   comment   a comment that fills the text
 The time is processor time, user and system, the least of seven runs, in milliseconds; the ratio is that of the two times.
+The program runs with huge pages for its memory, as `./priml` starts it; with --small-pages it runs without them.
 """
 import argparse
 import os
@@ -161,8 +162,11 @@ def filled(front, part, back, size):
 
 
 def brackets_of(size):
-    """A program of expressions in 60 brackets."""
-    return filled("priority p; main at p : int { ", "x <- do { y <- ret %s1%s; ret y }; " % ("(" * 60, ")" * 60), "ret 1 }", size)
+    """A program whose only expression is a balanced sum of ones in 40 brackets each."""
+    sum_of = "(" * 40 + "1" + ")" * 40
+    while 2 * len(sum_of) + 5 + 60 < size:
+        sum_of = "(%s + %s)" % (sum_of, sum_of)
+    return filled("priority p; main at p : int { ret ", sum_of, " }", len(sum_of) + 60)
 
 
 def inputs_of(size):
@@ -201,13 +205,13 @@ def names_of(size):
         number += 1
 
 
-def milliseconds(command, path):
+def milliseconds(command, path, environment=None):
     """The least processor time of seven runs, and the first line of the output."""
     least = line = None
     for _ in range(7):
         before = resource.getrusage(resource.RUSAGE_CHILDREN)
         with open(path) as text:
-            done = subprocess.run(command, stdin=text, stdout=subprocess.PIPE, check=False)
+            done = subprocess.run(command, stdin=text, stdout=subprocess.PIPE, check=False, env=environment)
         after = resource.getrusage(resource.RUSAGE_CHILDREN)
         spent = (after.ru_utime + after.ru_stime - before.ru_utime - before.ru_stime) * 1000
         least = spent if least is None else min(least, spent)
@@ -230,7 +234,11 @@ def main():
     parser = argparse.ArgumentParser(description="Times `check` beside sha256sum.")
     parser.add_argument("program", nargs="?", default=os.path.join(TOP, "crates", "priml", "out", "priml"))
     parser.add_argument("--only", choices=sorted(KINDS), help="one kind of text alone")
+    parser.add_argument("--small-pages", action="store_true", help="without huge pages")
     args = parser.parse_args()
+    environment = dict(os.environ)
+    if not args.small_pages:
+        environment.setdefault("GLIBC_TUNABLES", "glibc.malloc.hugetlb=1")
     program = os.path.abspath(args.program)
     print("%-10s %4s %12s %12s %8s  %s" % ("text", "MB", "check ms", "sha256 ms", "ratio", "answer"))
     with tempfile.TemporaryDirectory() as folder:
@@ -241,7 +249,7 @@ def main():
                 path = os.path.join(folder, "%s-%d" % (kind, megabytes))
                 with open(path, "w") as text:
                     text.write(make(megabytes * MEGABYTE))
-                check, answer = milliseconds([program, "check"], path)
+                check, answer = milliseconds([program, "check"], path, environment)
                 digest, _ = milliseconds(["sha256sum"], path)
                 print("%-10s %4d %12.1f %12.1f %8.2f  %s" % (kind, megabytes, check, digest, check / digest, answer))
 

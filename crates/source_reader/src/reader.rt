@@ -27,7 +27,6 @@ use source_grammar::{ParseStop, parse};
 use source_tokens::lexer::{Lexed, lex};
 use source_tokens::token::{Stop, Token};
 use std::alloc::{AllocError, Global};
-use std::mem::forget;
 
 /// Why a text gives no program. Each but the last has the offset of a byte. The tokens of the whole text are looked at first, and of their faults the
 /// earliest place decides; only where they are those of a program, names and limits are. At one place the smaller number of the kind decides.
@@ -70,10 +69,7 @@ pub fn read_source(alloc: Global, text: &[u8]) -> Result<Program, SourceFault>
     ensures one { IfErr result (λ e. e ≢ SourceFault.OutOfMemory → (f : SourceFault) → IsFaultOf text.now f → f ≡ e) }
 {
     let written = tree(alloc, text)?;
-    let read = program(alloc, &written.names, &written.raw);
-    // the process ends soon: to free the tree node by node takes longer than to resolve it
-    forget(written);
-    read
+    program(alloc, &written.names, &written.raw)
 }
 
 // A text as a tree over its distinct names. Its tokens are gone.

@@ -11,6 +11,8 @@ use Rattle.priml_syntax.specs.Records.{Each, InPathOrder}
 use Rattle.priml_syntax.proofs.Orders.{transitive}
 use Rattle.cost_graph.specs.declared.graph.Thread.{Thread}
 use Rattle.cost_graph.specs.Graph.{CostGraph, thread_total, thread_at, no_thread, last_vertex, IsGraph, IsWellFormed}
+use Rattle.response_report.specs.declared.row.Row.{Row}
+use Rattle.response_report.specs.Response.{AreRows}
 use Rattle.cost_graph.proofs.Ends.{last_below, priority_below}
 use Rattle.cost_graph.proofs.Unfit.{ancestor_below}
 
@@ -44,7 +46,10 @@ rise_in_order [] n le h = tt
 rise_in_order (r ∷ []) n le h = (tt, tt)
 rise_in_order (r ∷ s ∷ rs) n le h =
     let first : Precedes r.path s.path = h 0 r (omega (arith, le)) in
-    let rest = rise_in_order (s ∷ rs) (n - 1) (omega (arith, le)) (λ i d lt. h (suc i) d (omega (arith, lt))) in
+    let later : RiseTo (s ∷ rs) (n - 1) = λ i d lt.
+    let e : suc i + 1 ≡ suc (i + 1) = omega arith in
+    subst (λ k. Precedes (get_or (s ∷ rs) i d).path (get_or (r ∷ s ∷ rs) k d).path) e (h (suc i) d (omega (arith, lt))) in
+    let rest = rise_in_order (s ∷ rs) (n - 1) (omega (arith, le)) later in
     ((first, each_wider r.path s.path (map read_record rs) first rest.0), rest)
 
 pub threads_all : (g : CostGraph) (P : Thread → Type 0) (n : ℕ) → thread_total g ≤ n → ((t : ℕ) → t < n → P (thread_at g t)) → All P g.threads
@@ -65,3 +70,20 @@ one_well_formed g pairs ok h t lt u above apart =
     let below = ancestor_below g u (last_vertex g t) ok (last_below g t ok lt) above in
     let its = priority_below g 1 u ok h below in
     record { path = []; leads = omega (arith, own, its) }
+
+-- what holds of the first items, and of one more
+pub each_on : {X : Type 0} (P : X → Type 0) (xs : List X) (i : ℕ) (x : X) → i < length xs → P (get_or xs i x) → ((k : ℕ) (d : X) → k < i → P (get_or xs k d)) → (k : ℕ) (d : X) → k < i + 1 → P (get_or xs k d)
+each_on P xs i x lt here before k d k_lt =
+    elim (cases_lt k i) [
+      | inl early ↦ before k d early
+      | inr late ↦
+          let k_is : i ≡ k = omega (arith, late, k_lt) in
+          subst P (same xs i d x lt ∙ ap (λ j. get_or xs j d) k_is) here
+    ]
+
+-- the rows of a graph are those of its threads
+pub rows_numbered : (g : CostGraph) (pairs : List (ℕ × ℕ)) (cores : ℕ) (steps : List (List ℕ)) (rows : List Row) → AreRows g pairs cores steps rows → All (λ (r : Row). r.thread < thread_total g) rows
+rows_numbered g pairs cores steps rows h k d lt =
+    let k_lt : k < thread_total g = omega (arith, lt, h.each_thread) in
+    let is = (h.are k d k_lt).thread in
+    subst (λ n. n < thread_total g) (sym is) k_lt

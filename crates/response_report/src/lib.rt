@@ -5,10 +5,9 @@ mod bound;
 mod place;
 mod report;
 mod row;
-mod text;
-
 #[cfg(test)]
 mod tests;
+mod text;
 
 pub use bound::response_is_bounded;
 pub use report::rows;

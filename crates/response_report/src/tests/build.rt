@@ -132,14 +132,20 @@ fn are_within(count: usize, pairs: &[(u32, u32)]) -> bool
     ensures few { IsTrue result → length pairs.now < 2 ^ 32 }
 {
     for pair in pairs {
-        if pair.0 as usize >= count {
-            return false;
-        }
-        if pair.1 as usize >= count {
+        if !is_within(count, pair) {
             return false;
         }
     }
     pairs.len() <= u32::MAX as usize
+}
+
+fn is_within(count: usize, pair: &(u32, u32)) -> bool
+    ensures { IsTrue result ↔ ((pair.now.0 < count) × (pair.now.1 < count)) }
+{
+    if pair.0 as usize >= count {
+        return false;
+    }
+    (pair.1 as usize) < count
 }
 
 // Whether each record stands before the next.

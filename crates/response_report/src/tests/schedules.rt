@@ -1,8 +1,10 @@
 //! Plans, verdicts and rows of small graphs.
 ghost use Rattle.std.specs.Prelude.{◌<◌, ◌≤◌, IfOk};
 ghost use Rattle.std.specs.List.{All};
-ghost use Rattle.cost_graph.specs.Graph.{vertex_total, IsWellFormed};
+ghost use Rattle.cost_graph.specs.Graph.{thread_total, vertex_total, IsVertexBelow, IsWellFormed};
 ghost use Rattle.prompt_checker.specs.Read.{steps_of};
+ghost use Rattle.prompt_checker.specs.Schedule.{IsPrompt};
+ghost use Rattle.response_report.specs.declared.row.Row.{Row as TheLine};
 
 use crate::report::rows;
 use crate::row::Row as Line;
@@ -61,7 +63,11 @@ fn three(alloc: Global) -> Result<Scene, Fail> {
         Step::End,
     ];
     let last = [Step::Start, Step::Join(0), Step::End];
-    let list: [Row; 3] = [(None, 0, &root), (Some(0), 0, APART[1]), (Some(1), 0, &last)];
+    let list: [Row; 3] = [
+        (None, 0, &root),
+        (Some(0), 0, APART[1]),
+        (Some(1), 0, &last),
+    ];
     make_scene(alloc, &list, &["p"], &[])
 }
 
@@ -74,15 +80,11 @@ pub(crate) fn plan_of(alloc: Global, scene: &Scene, cores: u32) -> Result<Schedu
 }
 
 // The rows under a schedule, which has to be prompt, of a graph, which has to be well formed.
-fn rows_of(
-    alloc: Global,
-    scene: &Scene,
-    cores: u32,
-    schedule: &Schedule,
-) -> Result<Vec<Line>, Fail>
+fn rows_of(alloc: Global, scene: &Scene, cores: u32, schedule: &Schedule) -> Result<Vec<Line>, Fail>
     requires within { All (λ step. All (λ v. v < vertex_total scene.now.graph) step) (steps_of schedule.now) }
     requires some { 1 ≤ cores }
     requires few { cores ≤ 1024 }
+    ensures numbered { IfOk result (λ v. All (λ (r : TheLine). r.thread < thread_total scene.now.graph) v.items) }
 {
     match well_formed(alloc, &scene.graph, &scene.order)? {
         Shape::Good => prompt_rows(alloc, scene, cores, schedule),
@@ -101,11 +103,56 @@ fn prompt_rows(
     requires within { All (λ step. All (λ v. v < vertex_total scene.now.graph) step) (steps_of schedule.now) }
     requires some { 1 ≤ cores }
     requires few { cores ≤ 1024 }
+    ensures numbered { IfOk result (λ v. All (λ (r : TheLine). r.thread < thread_total scene.now.graph) v.items) }
 {
     match judge(alloc, &scene.graph, &scene.order, cores, schedule)? {
-        Verdict::Prompt => Ok(rows(alloc, &scene.graph, &scene.order, cores, schedule)?),
+        Verdict::Prompt => numbered_rows(alloc, scene, cores, schedule),
         Verdict::Flaw(_) => Err(Fail::new("not prompt")),
     }
+}
+
+// The rows under a prompt schedule.
+fn numbered_rows(
+    alloc: Global,
+    scene: &Scene,
+    cores: u32,
+    schedule: &Schedule,
+) -> Result<Vec<Line>, Fail>
+    requires well_formed { IsWellFormed scene.now.graph scene.now.order.pairs }
+    requires prompt { IsPrompt scene.now.graph (IsVertexBelow scene.now.graph scene.now.order.pairs) cores (steps_of schedule.now) }
+    requires some { 1 ≤ cores }
+    requires few { cores ≤ 1024 }
+    ensures numbered { IfOk result (λ v. All (λ (r : TheLine). r.thread < thread_total scene.now.graph) v.items) }
+{
+    let list = rows(alloc, &scene.graph, &scene.order, cores, schedule)?;
+    Ok(list)
+}
+
+// The verdict on a schedule, on at least one core.
+fn verdict_of(
+    alloc: Global,
+    scene: &Scene,
+    cores: u32,
+    schedule: &Schedule,
+) -> Result<Verdict, Fail>
+    requires { All (λ step. All (λ v. v < vertex_total scene.now.graph) step) (steps_of schedule.now) }
+{
+    if cores < 1 {
+        return Err(Fail::new("no core"));
+    }
+    Ok(judge(alloc, &scene.graph, &scene.order, cores, schedule)?)
+}
+
+// The report of the plan, on 1 to 1,024 cores.
+fn plan_report(alloc: Global, scene: &Scene, cores: u32) -> Result<Vec<u8>, Fail> {
+    if cores < 1 {
+        return Err(Fail::new("no core"));
+    }
+    if cores > 1024 {
+        return Err(Fail::new("too many cores"));
+    }
+    let plan = plan_of(alloc, scene, cores)?;
+    report(alloc, scene, cores, &plan)
 }
 
 fn flaw(step: u64, kind: FlawKind) -> Verdict {
@@ -127,12 +174,24 @@ fn verdicts(rt: HostRuntime) -> Result<(), Fail> {
     let scene = urgent_root(rt.alloc())?;
     let cases = [
         (1, "0:0\n0:1\n0:2\n0.0:0\n0.0:1\n", Verdict::Prompt),
-        (1, "0:0\n0:1\n0.0:0\n0:2\n0.0:1\n", flaw(3, FlawKind::Inverted(3, 2))),
+        (
+            1,
+            "0:0\n0:1\n0.0:0\n0:2\n0.0:1\n",
+            flaw(3, FlawKind::Inverted(3, 2)),
+        ),
         (1, "0:0 0:1\n", flaw(1, FlawKind::TooWide)),
         (1, "0:0 0:0\n", flaw(1, FlawKind::TooWide)),
-        (1, "0:0\n0:1\n0:2\n0.0:0\n0.0:1\n\n", flaw(6, FlawKind::EmptyStep)),
+        (
+            1,
+            "0:0\n0:1\n0:2\n0.0:0\n0.0:1\n\n",
+            flaw(6, FlawKind::EmptyStep),
+        ),
         (1, "", flaw(1, FlawKind::Unfinished(0))),
-        (1, "0:0\n0:1\n0:2\n0.0:0\n", flaw(5, FlawKind::Unfinished(4))),
+        (
+            1,
+            "0:0\n0:1\n0:2\n0.0:0\n",
+            flaw(5, FlawKind::Unfinished(4)),
+        ),
         (2, "0:0\n0:1\n0:2\n", flaw(3, FlawKind::IdleCore(3))),
         (2, "0:0\n0:1\n0:2 0:2\n", flaw(3, FlawKind::Twice(2))),
         (2, "0:0\n0:1\n0:2 0.0:0\n", flaw(4, FlawKind::Unfinished(4))),
@@ -141,7 +200,7 @@ fn verdicts(rt: HostRuntime) -> Result<(), Fail> {
     ];
     for (cores, text, want) in cases {
         let schedule = read_schedule(rt.alloc(), text.as_bytes(), &scene.graph)?;
-        let verdict = judge(rt.alloc(), &scene.graph, &scene.order, cores, &schedule)?;
+        let verdict = verdict_of(rt.alloc(), &scene, cores, &schedule)?;
         assert_eq!(rt; verdict, want, "{text}");
     }
     Ok(())
@@ -196,8 +255,7 @@ fn reports_of_plans(rt: HostRuntime) -> Result<(), Fail> {
         ),
     ];
     for (scene, cores, want) in cases {
-        let plan = plan_of(rt.alloc(), &scene, cores)?;
-        let text = report(rt.alloc(), &scene, cores, &plan)?;
+        let text = plan_report(rt.alloc(), &scene, cores)?;
         assert_eq!(rt; text.as_slice(), want.as_bytes(), "{want}");
     }
     Ok(())
@@ -209,7 +267,8 @@ fn report_of_a_schedule(rt: HostRuntime) -> Result<(), Fail> {
     let text = b"0:0\n0:1\n0.0:0\n0.0:1\n0:2\n".as_slice();
     let schedule = read_schedule(rt.alloc(), text, &scene.graph)?;
     let text = report(rt.alloc(), &scene, 1, &schedule)?;
-    let want = "cores 1\nsteps 5\nresponse 0 a time 5 work 5 span 3 bound 5\nresponse 0.0 b time 2 work 3 span 2 bound 3\n";
+    let want =
+        "cores 1\nsteps 5\nresponse 0 a time 5 work 5 span 3 bound 5\nresponse 0.0 b time 2 work 3 span 2 bound 3\n";
     assert_eq!(rt; text.as_slice(), want.as_bytes());
     Ok(())
 }

@@ -103,7 +103,10 @@ fn plan_steps(alloc: Global, scene: &Scene) -> Result<Option<usize>, AllocError>
 #[test]
 fn reports_of_large_graphs(rt: HostRuntime) -> Result<(), Fail> {
     // 100 children of 1,000 events
-    let cases = [(Shape::Fan, 100_202, 1_103), (Shape::Chain, 100_103, 99_905)];
+    let cases = [
+        (Shape::Fan, 100_202, 1_103),
+        (Shape::Chain, 100_103, 99_905),
+    ];
     for (shape, vertices, span) in cases {
         let scene = large(rt.alloc(), shape, 100, 1_000)?;
         let rows = rows_of(rt.alloc(), &scene)?;
@@ -135,7 +138,10 @@ fn joined_often(rt: HostRuntime) -> Result<(), Fail> {
     for row in rows_of(rt.alloc(), &scene)? {
         sizes.push((row.response, row.work, row.span, row.bound))?;
     }
-    assert_eq!(rt; sizes.as_slice(), [(1_005, 1_005, 1_005, 1_005), (2, 2, 2, 2)].as_slice());
+    assert_eq!(rt;
+        sizes.as_slice(),
+        [(1_005, 1_005, 1_005, 1_005), (2, 2, 2, 2)].as_slice()
+    );
     Ok(())
 }
 

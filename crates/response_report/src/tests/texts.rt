@@ -20,7 +20,11 @@ fn texts_of_graphs(rt: HostRuntime) -> Result<(), Fail> {
         (Some(0), 0, &[Step::Start, Step::End]),
     ];
     let joined: &[Row] = &[
-        (None, 0, &[Step::Start, Step::Spawn, Step::Join(0), Step::End]),
+        (
+            None,
+            0,
+            &[Step::Start, Step::Spawn, Step::Join(0), Step::End],
+        ),
         (Some(0), 1, &[Step::Start, Step::End]),
     ];
     let one: &[&str] = &["p"];

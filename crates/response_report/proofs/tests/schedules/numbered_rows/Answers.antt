@@ -1,0 +1,9 @@
+use Rattle.cost_graph.specs.Graph.{thread_total}
+use Rattle.prompt_checker.specs.Read.{steps_of}
+use Rattle.response_report.proofs.Worked.{rows_numbered}
+use Rattle.response_report.proofs.tests.schedules.numbered_rows.Goals as goal
+
+pub returns : goal.returns
+returns c =
+    let s = c.args.scene.now in
+    record { numbered = rows_numbered s.graph s.order.pairs c.args.cores (steps_of c.args.schedule.now) c.in_ok-list.list.items c.in_ok-list.ensures.rows }

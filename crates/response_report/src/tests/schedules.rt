@@ -71,6 +71,54 @@ fn three(alloc: Global) -> Result<Scene, Fail> {
     make_scene(alloc, &list, &["p"], &[])
 }
 
+// The events of a thread that makes so many plain steps between its first and its last.
+fn busy(alloc: Global, plain: usize) -> Result<Vec<Step>, AllocError> {
+    let mut steps = Vec::new(alloc);
+    steps.push(Step::Start)?;
+    for _ in 0..plain {
+        steps.push(Step::Plain)?;
+    }
+    steps.push(Step::End)?;
+    Ok(steps)
+}
+
+// A root of ui that spawns four sums of bg and a thread of log, and goes on; that of log joins the sums.
+fn dashboard(alloc: Global) -> Result<Scene, Fail> {
+    let mut root = Vec::new(alloc);
+    root.push(Step::Start)?;
+    for _ in 0..5 {
+        root.push(Step::Spawn)?;
+    }
+    for _ in 0..14 {
+        root.push(Step::Plain)?;
+    }
+    root.push(Step::End)?;
+    let sums = (
+        busy(alloc, 33)?,
+        busy(alloc, 63)?,
+        busy(alloc, 93)?,
+        busy(alloc, 123)?,
+    );
+    let log = [
+        Step::Start,
+        Step::Join(0),
+        Step::Join(1),
+        Step::Join(2),
+        Step::Join(3),
+        Step::Plain,
+        Step::End,
+    ];
+    let list: [Row; 6] = [
+        (None, 2, root.as_slice()),
+        (Some(0), 1, sums.0.as_slice()),
+        (Some(1), 1, sums.1.as_slice()),
+        (Some(2), 1, sums.2.as_slice()),
+        (Some(3), 1, sums.3.as_slice()),
+        (Some(4), 0, &log),
+    ];
+    make_scene(alloc, &list, &["log", "bg", "ui"], &[(0, 1), (1, 2)])
+}
+
 // The canonical plan.
 pub(crate) fn plan_of(alloc: Global, scene: &Scene, cores: u32) -> Result<Schedule, AllocError>
     requires { 1 ≤ cores }
@@ -258,6 +306,16 @@ fn reports_of_plans(rt: HostRuntime) -> Result<(), Fail> {
         let text = plan_report(rt.alloc(), &scene, cores)?;
         assert_eq!(rt; text.as_slice(), want.as_bytes(), "{want}");
     }
+    Ok(())
+}
+
+#[test]
+fn report_of_a_dashboard(rt: HostRuntime) -> Result<(), Fail> {
+    let scene = dashboard(rt.alloc())?;
+    let text = plan_report(rt.alloc(), &scene, 2)?;
+    let want =
+        "cores 2\nsteps 214\nresponse 0 ui time 21 work 21 span 21 bound 21\nresponse 0.0 bg time 35 work 339 span 35 bound 187\nresponse 0.1 bg time 83 work 338 span 65 bound 201\nresponse 0.2 bg time 128 work 337 span 95 bound 216\nresponse 0.3 bg time 206 work 336 span 125 bound 230\nresponse 0.4 log time 208 work 342 span 128 bound 235\n";
+    assert_eq!(rt; text.as_slice(), want.as_bytes());
     Ok(())
 }
 

@@ -102,15 +102,15 @@ fn plan_steps(alloc: Global, scene: &Scene) -> Result<Option<usize>, AllocError>
 // On one core the root's response is the number of vertices, and so are its work and its bound.
 #[test]
 fn reports_of_large_graphs(rt: HostRuntime) -> Result<(), Fail> {
-    // 100 children of 1,000 events
+    // children, the events of each, threads, vertices, and the root's span
     let cases = [
-        (Shape::Fan, 100_202, 1_103),
-        (Shape::Chain, 100_103, 99_905),
+        (Shape::Fan, 1_300, 75, 1_301, 100_102, 2_602),
+        (Shape::Chain, 100, 1_000, 101, 100_103, 99_905),
     ];
-    for (shape, vertices, span) in cases {
-        let scene = large(rt.alloc(), shape, 100, 1_000)?;
+    for (shape, children, events, threads, vertices, span) in cases {
+        let scene = large(rt.alloc(), shape, children, events)?;
         let rows = rows_of(rt.alloc(), &scene)?;
-        assert_eq!(rt; rows.len(), 101);
+        assert_eq!(rt; rows.len(), threads);
         let Some(root) = rows.first() else {
             return Err(Fail::new("no row"));
         };

@@ -13,7 +13,7 @@ use crate::refusal::{
 };
 use priml_io::{Command, ReadStop, Source, read_all, read_words, split};
 use priml_syntax::Program;
-use source_reader::read_source;
+use source_reader::read_source_leaving;
 use std::alloc::Global;
 use std::mem::forget;
 use type_rules::{TypeStop, check};
@@ -61,7 +61,11 @@ fn on_sections(alloc: Global, input: &[u8]) -> Reply
 fn on_text(alloc: Global, text: &[u8]) -> Reply
     ensures { ReplyIs (OnText text.now) result }
 {
-    match read_source(alloc, text) {
+    let mut rest = None;
+    let read = read_source_leaving(alloc, text, &mut rest);
+    // the process ends soon: to free the tree node by node takes as long as to resolve it
+    forget(rest);
+    match read {
         Ok(program) => on_program(alloc, program),
         Err(fault) => match source_refusal(fault) {
             Some(refusal) => Reply::Refused(refusal),

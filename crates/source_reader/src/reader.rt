@@ -60,7 +60,7 @@ impl From<AllocError> for SourceFault {
     }
 }
 
-/// The program that a text stands for; it is the only one. Where it stands for none, its fault, which is the only one too.
+/// The program that a text stands for; it is the only one. Where it stands for none, its fault.
 pub fn read_source(alloc: Global, text: &[u8]) -> Result<Program, SourceFault>
     ensures program { IfOk result (λ p. Stands text.now (read_program p)) }
     ensures scoped { IfOk result (λ p. IsScoped (read_program p)) }
@@ -68,13 +68,32 @@ pub fn read_source(alloc: Global, text: &[u8]) -> Result<Program, SourceFault>
     ensures refused { IfErr result (Refuses text.now) }
     ensures one { IfErr result (λ e. e ≢ SourceFault.OutOfMemory → (f : SourceFault) → IsFaultOf text.now f → f ≡ e) }
 {
-    let written = tree(alloc, text)?;
-    program(alloc, &written.names, &written.raw)
+    let mut rest = None;
+    read_source_leaving(alloc, text, &mut rest)
 }
 
-// A text as a tree over its distinct names. Its tokens are gone.
+/// The same, but the tree that was read on the way is left to the caller: to free it node by node takes as long as to resolve it, and a
+/// process that ends soon need not.
+pub fn read_source_leaving(
+    alloc: Global,
+    text: &[u8],
+    rest: &mut Option<Written>,
+) -> Result<Program, SourceFault>
+    ensures program { IfOk result (λ p. Stands text.now (read_program p)) }
+    ensures scoped { IfOk result (λ p. IsScoped (read_program p)) }
+    ensures only { IfOk result (λ p. (q : Tree) → Stands text.now q → q ≡ read_program p) }
+    ensures refused { IfErr result (Refuses text.now) }
+    ensures one { IfErr result (λ e. e ≢ SourceFault.OutOfMemory → (f : SourceFault) → IsFaultOf text.now f → f ≡ e) }
+{
+    let written = tree(alloc, text)?;
+    let read = program(alloc, &written.names, &written.raw);
+    *rest = Some(written);
+    read
+}
+
+/// A text as a tree over its distinct names, which are not resolved.
 #[derive(Drop)]
-struct Written {
+pub struct Written {
     names: IndexSet<Vec<u8>>,
     raw: RawProgram,
 }

@@ -1,6 +1,6 @@
 //! Reads the text of a program.
 
-ghost use Rattle.std.specs.Prelude.{◌≡◌, ◌≢◌, [], ℕ, List, IsAscii, IfOk, IfErr};
+ghost use Rattle.std.specs.Prelude.{◌≡◌, ◌≢◌, [], ℕ, List, IsAscii, IfOk, IfErr, MatchOption};
 ghost use Rattle.std.specs.List.{All};
 ghost use Rattle.indexmap.specs.IndexSet.{index_set_len};
 ghost use Rattle.priml_syntax.specs.Tree.{Tree};
@@ -84,6 +84,7 @@ pub fn read_source_leaving(
     ensures only { IfOk result (λ p. (q : Tree) → Stands text.now q → q ≡ read_program p) }
     ensures refused { IfErr result (Refuses text.now) }
     ensures one { IfErr result (λ e. e ≢ SourceFault.OutOfMemory → (f : SourceFault) → IsFaultOf text.now f → f ≡ e) }
+    ensures left { IfOk result (λ p. MatchOption rest.new ⊥ (λ w. IsWrittenAs text.now (name_bytes w.names) (read_raw w.raw))) }
 {
     let written = tree(alloc, text)?;
     let read = program(alloc, &written.names, &written.raw);

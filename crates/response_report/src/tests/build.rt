@@ -67,6 +67,11 @@ pub(crate) fn scene_of(
         return Err(Fail::new("records are not finished"));
     }
     let graph = Graph::of_records(alloc, &records)?;
+    scene_over(alloc, graph, order)
+}
+
+/// The scene of a graph and an order.
+pub(crate) fn scene_over(alloc: Global, graph: Graph, order: Order) -> Result<Scene, Fail> {
     if has_cycle(alloc, &graph)? {
         return Err(Fail::new("a cycle"));
     }
@@ -114,8 +119,8 @@ fn event_of(alloc: Global, step: Step) -> Result<Event, Fail> {
     }
 }
 
-// The order of these names and pairs, whose numbers are below the count of names.
-fn order_of(alloc: Global, names: &[&str], pairs: &[(u32, u32)]) -> Result<Order, Fail> {
+/// The order of these names and pairs, whose numbers are below the count of names.
+pub(crate) fn order_of(alloc: Global, names: &[&str], pairs: &[(u32, u32)]) -> Result<Order, Fail> {
     let mut list = Vec::new(alloc);
     for name in names {
         list.push(String::from_str(alloc, name)?)?;

@@ -128,7 +128,12 @@ pub(crate) fn plan_of(alloc: Global, scene: &Scene, cores: u32) -> Result<Schedu
 }
 
 // The rows under a schedule, which has to be prompt, of a graph, which has to be well formed.
-fn rows_of(alloc: Global, scene: &Scene, cores: u32, schedule: &Schedule) -> Result<Vec<Line>, Fail>
+pub(crate) fn rows_of(
+    alloc: Global,
+    scene: &Scene,
+    cores: u32,
+    schedule: &Schedule,
+) -> Result<Vec<Line>, Fail>
     requires within { All (λ step. All (λ v. v < vertex_total scene.now.graph) step) (steps_of schedule.now) }
     requires some { 1 ≤ cores }
     requires few { cores ≤ 1024 }
@@ -177,7 +182,7 @@ fn numbered_rows(
 }
 
 // The verdict on a schedule, on at least one core.
-fn verdict_of(
+pub(crate) fn verdict_of(
     alloc: Global,
     scene: &Scene,
     cores: u32,
@@ -192,7 +197,7 @@ fn verdict_of(
 }
 
 // The report of the plan, on 1 to 1,024 cores.
-fn plan_report(alloc: Global, scene: &Scene, cores: u32) -> Result<Vec<u8>, Fail> {
+pub(crate) fn plan_report(alloc: Global, scene: &Scene, cores: u32) -> Result<Vec<u8>, Fail> {
     if cores < 1 {
         return Err(Fail::new("no core"));
     }
@@ -203,7 +208,7 @@ fn plan_report(alloc: Global, scene: &Scene, cores: u32) -> Result<Vec<u8>, Fail
     report(alloc, scene, cores, &plan)
 }
 
-fn flaw(step: u64, kind: FlawKind) -> Verdict {
+pub(crate) fn flaw(step: u64, kind: FlawKind) -> Verdict {
     Verdict::Flaw(Flaw { step, kind })
 }
 

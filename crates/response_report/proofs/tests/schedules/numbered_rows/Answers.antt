@@ -1,4 +1,3 @@
-use Rattle.cost_graph.specs.Graph.{thread_total}
 use Rattle.prompt_checker.specs.Read.{steps_of}
 use Rattle.response_report.proofs.Worked.{rows_numbered}
 use Rattle.response_report.proofs.tests.schedules.numbered_rows.Goals as goal

@@ -16,7 +16,7 @@ mod text;
 pub use finished::are_finished;
 pub use graph::{Graph, Thread};
 pub use kin::{ancestors, descendants};
-pub use marks::{run_step, sources, visit};
+pub use marks::{run_step, sources};
 pub use order::{has_cycle, topological};
 pub use shape::well_formed;
 pub use stop::{Shape, ShapeStop};

@@ -1,6 +1,6 @@
-ghost use Rattle.std.specs.Prelude.{◌≡◌, ℕ, ◌<◌, ◌≤◌, ◌↔◌, ◌^◌, length, get_or, [], List, ◌++◌, true, false, IsTrue, slice_index, slice_set, OnOk, IfOk, ◌==◌};
-ghost use Rattle.std.specs.List.{All, filter, list_all, range_with_len};
-ghost use Rattle.cost_graph.specs.Graph.{vertex_total, parents_at, children_at, IsGraph};
+ghost use Rattle.std.specs.Prelude.{◌≡◌, ℕ, ◌+◌, ◌<◌, ◌≤◌, length, ◌++◌, true, false, slice_index, slice_set, OnOk, OnErr, IfOk, IfSome, ◌==◌, vec_len, vec_capacity};
+ghost use Rattle.std.specs.List.{All, filter, range_with_len, sum_by};
+ghost use Rattle.cost_graph.specs.Graph.{vertex_total, parents_at, children_at};
 ghost use Rattle.cost_graph.specs.Marks.{is_marked, is_free, IsSeen, marks_after, freed_by};
 
 use crate::graph::Graph;
@@ -22,20 +22,24 @@ fn marked_front(marks: &[bool], numbers: &[u32], from: usize) -> usize
     at
 }
 
-/// Marks the vertex, and adds its children all of whose parents are now marked. `seen` says of each vertex how
-/// many of its parents, from the front, are known to be marked, so that all visits together look at each edge twice.
-pub fn visit(
+/// Marks the vertex, and adds its children all of whose parents are now marked; there is room for all its children.
+/// `seen` says of each vertex how many of its parents, from the front, are known to be marked, so that all visits
+/// together look at each edge twice.
+pub(crate) fn visit(
     graph: &Graph,
     marks: &mut [bool],
     seen: &mut [usize],
     vertex: u32,
     free: &mut Vec<u32>,
-) -> Result<(), AllocError>
+)
     requires vertex_in { vertex < vertex_total graph.now }
     requires watched { IsSeen graph.now marks.old seen.old }
+    requires room { vec_len free.old + length (children_at graph.now vertex) ≤ vec_capacity free.old }
     ensures marked { marks.new ≡ slice_set marks.old vertex true }
     ensures watched { IsSeen graph.now marks.new seen.new }
-    ensures freed { OnOk result (free.new.items ≡ free.old.items ++ filter (is_free graph.now marks.new) (children_at graph.now vertex)) }
+    ensures freed { free.new.items ≡ free.old.items ++ filter (is_free graph.now marks.new) (children_at graph.now vertex) }
+    ensures few { vec_len free.new ≤ vec_len free.old + length (children_at graph.now vertex) }
+    ensures capacity { vec_capacity free.old ≤ vec_capacity free.new }
 {
     let _count = graph.vertex_count();
     marks[vertex as usize] = true;
@@ -44,13 +48,24 @@ pub fn visit(
         let front = marked_front(marks, parents, seen[*child as usize]);
         seen[*child as usize] = front;
         if front == parents.len() {
-            free.push(*child)?;
+            free.push(*child).unwrap();
         }
     }
-    Ok(())
 }
 
-/// Visits the vertices in turn, and answers those that they free.
+// How many children the vertices have, counted for each; None where no number is as large.
+fn count_children(graph: &Graph, vertices: &Vec<u32>) -> Option<usize>
+    requires { All (λ v. v < vertex_total graph.now) vertices.now.items }
+    ensures { IfSome result (λ n. n ≡ sum_by (λ v. length (children_at graph.now v)) vertices.now.items) }
+{
+    let mut count = 0usize;
+    for vertex in vertices {
+        count = count.checked_add(graph.children_of(*vertex).len())?;
+    }
+    Some(count)
+}
+
+/// Visits the vertices in turn, and answers those that they free. Where memory is wanting nothing is visited.
 pub fn run_step(
     alloc: Global,
     graph: &Graph,
@@ -63,10 +78,14 @@ pub fn run_step(
     ensures watched { IsSeen graph.now marks.new.items seen.new.items }
     ensures marked { OnOk result (marks.new.items ≡ marks_after marks.old.items step.now.items) }
     ensures freed { IfOk result (λ f. f.items ≡ freed_by graph.now marks.old.items step.now.items) }
+    ensures kept { OnErr result ((marks.new.items ≡ marks.old.items) × (seen.new.items ≡ seen.old.items)) }
 {
-    let mut freed = Vec::new(alloc);
+    let Some(room) = count_children(graph, step) else {
+        return Err(AllocError);
+    };
+    let mut freed = Vec::with_capacity(alloc, room)?;
     for vertex in step {
-        visit(graph, marks, seen, *vertex, &mut freed)?;
+        visit(graph, marks, seen, *vertex, &mut freed);
     }
     Ok(freed)
 }

@@ -19,12 +19,14 @@ fn pass(
     requires place_in { place < length order.old.items }
     requires vertex_in { slice_index order.old.items place < vertex_total graph.now }
     requires watched { IsSeen graph.now marks.old.items seen.old.items }
-    ensures watched { IsSeen graph.now marks.new.items seen.new.items }
-    ensures marked { marks.new.items ≡ slice_set marks.old.items (slice_index order.old.items place) true }
+    ensures watched { OnOk result (IsSeen graph.now marks.new.items seen.new.items) }
+    ensures marked { OnOk result (marks.new.items ≡ slice_set marks.old.items (slice_index order.old.items place) true) }
     ensures order { OnOk result (order.new.items ≡ order.old.items ++ filter (is_free graph.now marks.new.items) (children_at graph.now (slice_index order.old.items place))) }
 {
     let vertex = order[place];
-    visit(graph, marks, seen, vertex, order)
+    order.reserve(graph.children_of(vertex).len())?;
+    visit(graph, marks, seen, vertex, order);
+    Ok(())
 }
 
 /// The vertices in an order in which each stands after its parents; in a graph with a cycle, as far as the cycles

@@ -4,7 +4,7 @@ use Rattle.cost_graph.specs.Graph.{CostGraph, vertex_total, parents_at, children
 use Rattle.cost_graph.specs.Marks.{is_marked, is_free}
 use Rattle.cost_graph.proofs.Visits.{children_below, parents_below, free_at_end, not_free_before, seen_on, freed_yes, freed_no}
 use Rattle.cost_graph.proofs.marks.visit.Goals as goal
-use Rattle.cost_graph.proofs.marks.visit.Goals.{then-front-parents+in_ok-push, else-front-parents}
+use Rattle.cost_graph.proofs.marks.visit.Goals.{then-front-parents, else-front-parents}
 
 -- the child of a turn is a vertex
 child_in : (g : CostGraph) (u k : ℕ) (xs : List ℕ) → xs ≡ children_at g u → k < length xs → get_or xs k 0 < vertex_total g
@@ -42,14 +42,24 @@ loop-child-preserved c =
     let fits = subst (λ l. front ≤ length l) same said.in_range in
     let watched = seen_on g marks c.loop-child.seen child front c.loop-child.invariant.watched below fits known in
     elim c.if-front-parents.branch [
-      | then-front-parents+in_ok-push w ↦
+      | then-front-parents w ↦
           let all = free_at_end g marks child front (w.if-front-parents.true ∙ ap length same) known in
-          let next : c.if-front-parents.free.items ≡ c.loop-child.free.items ++ child ∷ [] = grind (arith, common_steps, w.in_ok-push.ensures.items, w.free-is) in
-          record { watched = watched; freed = freed_yes (is_free g marks) items c.loop-child.child-index c.args.free.now.items c.loop-child.free.items c.if-front-parents.free.items lt c.loop-child.invariant.freed all next }
+          let next : c.if-front-parents.free.items ≡ c.loop-child.free.items ++ child ∷ [] = grind (arith, common_steps, w.push.ensures.items, w.free-is) in
+          record {
+            watched = watched;
+            freed = freed_yes (is_free g marks) items c.loop-child.child-index c.args.free.now.items c.loop-child.free.items c.if-front-parents.free.items lt c.loop-child.invariant.freed all next;
+            few = grind (arith, common_steps, w.push.ensures.upper_bound, w.free-is);
+            capacity = grind (arith, common_steps, w.push.ensures.capacity, w.free-is);
+          }
       | else-front-parents w ↦
           let less : front < length (parents_at g child) = omega (arith, fits, w.if-front-parents.false, ap length same) in
           let stops = subst (λ l. front < length l → is_marked marks (get_or l front 0) ≡ false) same said.stops less in
           let none = not_free_before g marks child front less stops in
           let still : c.if-front-parents.free.items ≡ c.loop-child.free.items = ap (λ f. f.items) w.free-is in
-          record { watched = watched; freed = still ∙ freed_no (is_free g marks) items c.loop-child.child-index c.args.free.now.items c.loop-child.free.items lt c.loop-child.invariant.freed none }
+          record {
+            watched = watched;
+            freed = still ∙ freed_no (is_free g marks) items c.loop-child.child-index c.args.free.now.items c.loop-child.free.items lt c.loop-child.invariant.freed none;
+            few = grind (arith, common_steps, w.free-is);
+            capacity = grind (arith, common_steps, w.free-is);
+          }
     ]

@@ -22,15 +22,15 @@ pass-requires-clause-vertex_in c = next_in c.args.graph.now c.places.marks.items
 pub places-smaller : goal.places-smaller
 places-smaller c =
     let lt : c.places.place < length c.places.order.items = omega (arith, c.places-test.true, c.len.ensures) in
-    subst (λ l. unmarked l < unmarked c.places.marks.items) (sym c.pass.ensures.marked) (sorting_falls c.args.graph.now c.places.marks.items c.places.seen.items c.places.order.items c.places.place c.places.invariant lt)
+    subst (λ l. unmarked l < unmarked c.places.marks.items) (sym c.in_ok-pass.ensures.marked) (sorting_falls c.args.graph.now c.places.marks.items c.places.seen.items c.places.order.items c.places.place c.places.invariant lt)
 
 pub places-preserved : goal.places-preserved
 places-preserved c =
     let g = c.args.graph.now in
     let lt : c.places.place < length c.places.order.items = omega (arith, c.places-test.true, c.len.ensures) in
     let v = get_or c.places.order.items c.places.place 0 in
-    let m = c.pass.ensures.marked in
-    let watched = subst (λ l. IsSeen g l c.pass.new.seen.items) m c.pass.ensures.watched in
+    let m = c.in_ok-pass.ensures.marked in
+    let watched = subst (λ l. IsSeen g l c.pass.new.seen.items) m c.in_ok-pass.ensures.watched in
     let order = subst (λ l. c.pass.new.order.items ≡ c.places.order.items ++ filter (is_free g l) (children_at g v)) m c.in_ok-pass.ensures.order in
     rw (m, order) (sorting_on g c.places.marks.items c.places.seen.items c.places.order.items c.places.place c.places.invariant lt c.pass.new.seen.items watched)
 

@@ -12,7 +12,7 @@ use Rattle.cost_graph.specs.Walks.{Leads, Reaches, ProperlyReaches, HasNoCycle}
 use Rattle.cost_graph.specs.Graph.{CostGraph, vertex_total, parents_at, children_at, is_edge, Edge, IsAcyclic}
 use Rattle.cost_graph.proofs.Walks.{last_edge_of, reaches_on}
 use Rattle.cost_graph.proofs.Visits.{numbers_below}
-use Rattle.cost_graph.specs.Order.{IsTopological, IsCyclic, HasWay, AreMarked}
+use Rattle.cost_graph.specs.Order.{IsTopological, IsSortedOrStuck, HasWay, AreMarked}
 use Rattle.cost_graph.proofs.Members.{decides_eq, no_member, member_cons, member_head, distinct_right, distinct_apart, in_drop}
 use Rattle.cost_graph.proofs.ReadyNext.{child_of, parent_of_child, edge_in}
 
@@ -200,5 +200,5 @@ pub order_short : (g : CostGraph) (order : List ℕ) → IsTopological g order �
 order_short g order topo = length-le_from_distinct_below order (vertex_total g) topo.once (λ q e. (topo.all q).1 ((is_member-Decides decides_eq order q).0 e))
 
 -- in a graph without cycles the vertices have an order
-pub in_order_or_cyclic : (g : CostGraph) (order : List ℕ) → IsAcyclic g → IsTopological g order ⊎ IsCyclic (Edge g) → IsTopological g order
-in_order_or_cyclic g order acyclic h = elim h [ inl t ↦ t | inr c ↦ absurd (acyclic c.0 c.1 c.2 c.3) ]
+pub sorted_where_acyclic : (g : CostGraph) (order : List ℕ) → IsAcyclic g → IsSortedOrStuck g order → IsTopological g order
+sorted_where_acyclic g order acyclic h = elim h [ inl t ↦ t.0 | inr c ↦ absurd (acyclic c.0.0 c.0.1 c.0.2 c.0.3) ]

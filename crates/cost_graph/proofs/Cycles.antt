@@ -38,13 +38,14 @@ module _ (E : ℕ → ℕ → Type 0) where
         | inr later ↦ let r = reach_member y x v ys l.1 later in (y ∷ r.0, (l.0, r.1))
       ]
 
-  cycle_from : (u v : ℕ) (ws : List ℕ) → Leads E u ws v → Repeats (u ∷ ws) → (x : ℕ) × (y : ℕ) × (ys : List ℕ) × Leads E x (y ∷ ys) x
+  -- a walk in which a number stands twice has a cycle that leads to its end
+  cycle_from : (u v : ℕ) (ws : List ℕ) → Leads E u ws v → Repeats (u ∷ ws) → (x : ℕ) × (y : ℕ) × (ys : List ℕ) × Leads E x (y ∷ ys) x × Reaches E x v
   cycle_from u v [] l (inl c) = absurd (no_member u c)
   cycle_from u v [] l (inr r) = absurd r
   cycle_from u v (w ∷ ws) l (inl c) =
       elim (member_cons w ws u c) [
-        | inl here ↦ (u, w, [], (l.0, here))
-        | inr later ↦ let r = reach_member w u v ws l.1 later in (u, w, r.0, (l.0, r.1))
+        | inl here ↦ (u, w, [], (l.0, here), (w ∷ ws, l))
+        | inr later ↦ let r = reach_member w u v ws l.1 later in (u, w, r.0, (l.0, r.1), (w ∷ ws, l))
       ]
   cycle_from u v (w ∷ ws) l (inr r) = cycle_from w v ws l.1 r
 
@@ -78,7 +79,8 @@ module _ (E : ℕ → ℕ → Type 0) where
           all = λ q c. elim (member_cons p.0 (w.from ∷ w.rest) q c) [ inl e ↦ subst (λ x. x < n) e (below p.0 p.2) | inr later ↦ w.all q later ];
         }
 
-    pub stuck_cycle : (v : ℕ) → U v → (x : ℕ) × (y : ℕ) × (ys : List ℕ) × Leads E x (y ∷ ys) x
+    -- a cycle leads to each of the set
+    pub stuck_cycle : (v : ℕ) → U v → (x : ℕ) × (y : ℕ) × (ys : List ℕ) × Leads E x (y ∷ ys) x × Reaches E x v
     stuck_cycle v u =
         let w = walk_back n v u in
         elim (distinct_or_repeats (w.from ∷ w.rest)) [

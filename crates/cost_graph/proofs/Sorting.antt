@@ -14,11 +14,12 @@ use Rattle.std.proofs.lemmas.Map.Steps.{length-le_from_distinct_below}
 use Rattle.std.proofs.lemmas.List.FromFn.{length-range_with_len}
 use Rattle.cost_graph.specs.Graph.{CostGraph, vertex_total, parents_at, children_at, is_edge, Edge, IsGraph}
 use Rattle.cost_graph.specs.Marks.{is_free, IsSeen, IsReady, freed_by, unmarked}
-use Rattle.cost_graph.specs.Order.{IsSortedOrStuck}
+use Rattle.cost_graph.specs.Order.{IsTopological, IsBehindCycle, IsBeforeCycles, IsSortedOrStuck}
 use Rattle.cost_graph.proofs.Members.{decides_eq, member_or_not, no_member, member_cons, member_head, member_tail, distinct_right, distinct_apart, distinct_filter, distinct_join, parents_seen, in_drop, no_member_short, short_from_none}
 use Rattle.cost_graph.proofs.Visits.{numbers_below}
 use Rattle.cost_graph.proofs.ReadyNext.{IsDone, IsFreed, done_next, ready_then, then_ready, freed_is}
 use Rattle.cost_graph.proofs.Cycles.{distinct_with, stuck_cycle}
+use Rattle.cost_graph.proofs.Ordered.{in_order_free, ordered_acyclic}
 use Rattle.cost_graph.proofs.Falls.{falls}
 use Rattle.cost_graph.proofs.Ranges.{in_range, in_filter, out_filter, from_filter, distinct_range}
 
@@ -149,49 +150,68 @@ all_or_one order (suc n) =
       ]
     ]
 
-pub sorted_or_stuck : (g : CostGraph) (marks : List Bool) (seen order : List ℕ) (place : ℕ) → IsSorting g marks seen order place → IsGraph g → length order ≤ place → IsSortedOrStuck g order
-sorted_or_stuck g marks seen order place now shape end =
-    elim (all_or_one order (vertex_total g)) [
-      | inl all ↦ inl (record { all = λ v. (all v, λ c. below v c); after = now.after; once = now.once }, full all)
-      | inr m ↦ inr (stuck_cycle (Edge g) (λ v. (v < vertex_total g) × (Contains order v → ⊥)) (vertex_total g) (λ v u. u.0) back m.0 (m.1, m.2), short m.0 m.1 m.2)
-    ]
-  where
-    whole : take place order ≡ order
-    whole = let e : length order ≡ place = omega (arith, now.fits, end) in subst (λ n. take n order ≡ order) e (take-length order)
+module _ (g : CostGraph) (marks : List Bool) (seen order : List ℕ) (place : ℕ) (now : IsSorting g marks seen order place) (shape : IsGraph g) (end : length order ≤ place) where
+  whole : take place order ≡ order
+  whole = let e : length order ≡ place = omega (arith, now.fits, end) in subst (λ n. take n order ≡ order) e (take-length order)
 
-    below : (v : ℕ) → Contains order v → v < vertex_total g
-    below v c =
-        elim (cases_lt v (length marks)) [
-          | inl lt ↦ omega (arith, lt, now.done.size)
-          | inr past ↦ absurd (both_ways (get_or marks v false) (get_or_past marks v false past) ((now.done.agree v).1 (subst (λ l. Contains l v) (sym whole) c)))
-        ]
+  below : (v : ℕ) → Contains order v → v < vertex_total g
+  below v c =
+      elim (cases_lt v (length marks)) [
+        | inl lt ↦ omega (arith, lt, now.done.size)
+        | inr past ↦ absurd (both_ways (get_or marks v false) (get_or_past marks v false past) ((now.done.agree v).1 (subst (λ l. Contains l v) (sym whole) c)))
+      ]
 
-    back : (v : ℕ) → (v < vertex_total g) × (Contains order v → ⊥) → (p : ℕ) × Edge g p v × ((p < vertex_total g) × (Contains order p → ⊥))
-    back v u =
-        elim (parents_seen order (parents_at g v)) [
-          | inr p ↦ (p.0, p.1, (shape.ends p.0 v p.1, p.2))
-          | inl all ↦
-              let ready : IsReady g (take place order) v = subst (λ l. IsReady g l v) (sym whole) (record { vertex = u.0; waits = u.1; parents = all }) in
-              let c = in_drop order place v ((now.queue v).1 ready) in
-              absurd (u.1 c)
-        ]
+  -- a vertex that is missing has a parent that is missing
+  back : (v : ℕ) → (v < vertex_total g) × (Contains order v → ⊥) → (p : ℕ) × Edge g p v × ((p < vertex_total g) × (Contains order p → ⊥))
+  back v u =
+      elim (parents_seen order (parents_at g v)) [
+        | inr p ↦ (p.0, p.1, (shape.ends p.0 v p.1, p.2))
+        | inl all ↦
+            let ready : IsReady g (take place order) v = subst (λ l. IsReady g l v) (sym whole) (record { vertex = u.0; waits = u.1; parents = all }) in
+            let c = in_drop order place v ((now.queue v).1 ready) in
+            absurd (u.1 c)
+      ]
 
-    member : (xs : List ℕ) (q : ℕ) → (Contains xs q → is_member nat_eq xs q ≡ true) × (is_member nat_eq xs q ≡ true → Contains xs q)
-    member xs q = let d = is_member-Decides decides_eq xs q in (λ c. d.1 c, λ e. d.0 e)
+  -- a cycle leads to a vertex that is missing
+  behind : (v : ℕ) → v < vertex_total g → (Contains order v → ⊥) → IsBehindCycle g v
+  behind v lt out = stuck_cycle (Edge g) (λ v. (v < vertex_total g) × (Contains order v → ⊥)) (vertex_total g) (λ v u. u.0) back v (lt, out)
 
-    low : length order ≤ vertex_total g
-    low = length-le_from_distinct_below order (vertex_total g) now.once (λ q e. below q ((member order q).1 e))
+  member : (xs : List ℕ) (q : ℕ) → (Contains xs q → is_member nat_eq xs q ≡ true) × (is_member nat_eq xs q ≡ true → Contains xs q)
+  member xs q = let d = is_member-Decides decides_eq xs q in (λ c. d.1 c, λ e. d.0 e)
 
-    full : ((v : ℕ) → v < vertex_total g → Contains order v) → length order ≡ vertex_total g
-    full all =
-        let numbers = range_with_len 0 (vertex_total g) in
-        let high = length-le_from_is_member nat_eq_equiv numbers order (distinct_range 0 (vertex_total g)) (λ q e. (member order q).0 (all q (All-contains (λ v. v < vertex_total g) numbers q (numbers_below (vertex_total g)) ((member numbers q).1 e)))) in
-        omega (arith, low, high, length-range_with_len 0 (vertex_total g))
+  low : length order ≤ vertex_total g
+  low = length-le_from_distinct_below order (vertex_total g) now.once (λ q e. below q ((member order q).1 e))
 
-    short : (v : ℕ) → v < vertex_total g → (Contains order v → ⊥) → length order < vertex_total g
-    short v lt out =
-        let one = length-le_from_distinct_below (v ∷ order) (vertex_total g) (distinct_with v order now.once out) (λ q e. elim (member_cons v order q ((member (v ∷ order) q).1 e)) [ inl is ↦ subst (λ x. x < vertex_total g) is lt | inr later ↦ below q later ]) in
-        omega (arith, one)
+  full : ((v : ℕ) → v < vertex_total g → Contains order v) → length order ≡ vertex_total g
+  full all =
+      let numbers = range_with_len 0 (vertex_total g) in
+      let high = length-le_from_is_member nat_eq_equiv numbers order (distinct_range 0 (vertex_total g)) (λ q e. (member order q).0 (all q (All-contains (λ v. v < vertex_total g) numbers q (numbers_below (vertex_total g)) ((member numbers q).1 e)))) in
+      omega (arith, low, high, length-range_with_len 0 (vertex_total g))
+
+  short : (v : ℕ) → v < vertex_total g → (Contains order v → ⊥) → length order < vertex_total g
+  short v lt out =
+      let one = length-le_from_distinct_below (v ∷ order) (vertex_total g) (distinct_with v order now.once out) (λ q e. elim (member_cons v order q ((member (v ∷ order) q).1 e)) [ inl is ↦ subst (λ x. x < vertex_total g) is lt | inr later ↦ below q later ]) in
+      omega (arith, one)
+
+  -- the order has each vertex to which no cycle leads, and no other
+  pub before_cycles : IsBeforeCycles g order
+  before_cycles = record {
+    all = λ v. (
+      λ h. elim (member_or_not order v) [ inl c ↦ c | inr out ↦ absurd (h.1 (behind v h.0 out)) ],
+      λ c. (below v c, in_order_free g order now.after now.once v c),
+    );
+    after = now.after;
+    once = now.once;
+  }
+
+  pub sorted_or_stuck : IsSortedOrStuck g order
+  sorted_or_stuck =
+      elim (all_or_one order (vertex_total g)) [
+        | inl all ↦
+            let topo : IsTopological g order = record { all = λ v. (all v, λ c. below v c); after = now.after; once = now.once } in
+            inl (topo, ordered_acyclic g order topo shape, full all)
+        | inr m ↦ let c = behind m.0 m.1 m.2 in inr ((c.0, c.1, c.2, c.3), short m.0 m.1 m.2)
+      ]
 
 no_seen : (n v : ℕ) → get_or {A = ℕ} (replicate n 0) v 0 ≡ 0
 no_seen zero v = refl

@@ -1,8 +1,8 @@
-ghost use Rattle.std.specs.Prelude.{◌≡◌, ℕ, ◌<◌, ◌⊎◌, ◌++◌, length, get_or, OnOk, IfOk, MatchBool, true, set, slice_set, slice_index};
+ghost use Rattle.std.specs.Prelude.{◌≡◌, ◌<◌, ◌++◌, length, OnOk, IfOk, MatchBool, true, slice_set, slice_index};
 ghost use Rattle.std.specs.List.{filter};
 ghost use Rattle.cost_graph.specs.Graph.{vertex_total, children_at, Edge, IsAcyclic};
 ghost use Rattle.cost_graph.specs.Marks.{IsSeen, is_free};
-ghost use Rattle.cost_graph.specs.Order.{IsTopological, IsCyclic, IsSortedOrStuck};
+ghost use Rattle.cost_graph.specs.Order.{IsCyclic, IsBeforeCycles, IsSortedOrStuck};
 
 use crate::graph::Graph;
 use crate::marks::{sources, visit};
@@ -29,26 +29,11 @@ fn pass(
     Ok(())
 }
 
-/// The vertices in an order in which each stands after its parents; in a graph with a cycle, as far as the cycles
-/// let them.
+/// The vertices to which no cycle leads, in an order in which each stands after its parents: all of them exactly where
+/// the graph has no cycle, and fewer than it has where there is one.
 pub fn topological(alloc: Global, graph: &Graph) -> Result<Vec<u32>, AllocError>
-    ensures { IfOk result (λ order. IsTopological graph.now order.items ⊎ IsCyclic (Edge graph.now)) }
-{
-    sorted(alloc, graph)
-}
-
-/// Whether some vertex has a path of edges, at least one, back to itself.
-pub fn has_cycle(alloc: Global, graph: &Graph) -> Result<bool, AllocError>
-    ensures { IfOk result (λ b. MatchBool b (IsCyclic (Edge graph.now)) (IsAcyclic graph.now)) }
-{
-    let count = graph.vertex_count() as usize;
-    let order = sorted(alloc, graph)?;
-    Ok(order.len() < count)
-}
-
-// The vertices in an order in which each stands after its parents, or fewer, where a cycle stands in the way.
-fn sorted(alloc: Global, graph: &Graph) -> Result<Vec<u32>, AllocError>
-    ensures { IfOk result (λ order. IsSortedOrStuck graph.now order.items) }
+    ensures order { IfOk result (λ order. IsBeforeCycles graph.now order.items) }
+    ensures whole { IfOk result (λ order. IsSortedOrStuck graph.now order.items) }
 {
     let count = graph.vertex_count() as usize;
     let mut marks = vec![in alloc; false; count]?;
@@ -60,4 +45,13 @@ fn sorted(alloc: Global, graph: &Graph) -> Result<Vec<u32>, AllocError>
         place += 1;
     }
     Ok(order)
+}
+
+/// Whether some vertex has a path of edges, at least one, back to itself.
+pub fn has_cycle(alloc: Global, graph: &Graph) -> Result<bool, AllocError>
+    ensures { IfOk result (λ b. MatchBool b (IsCyclic (Edge graph.now)) (IsAcyclic graph.now)) }
+{
+    let count = graph.vertex_count() as usize;
+    let order = topological(alloc, graph)?;
+    Ok(order.len() < count)
 }

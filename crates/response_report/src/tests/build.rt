@@ -44,11 +44,16 @@ pub(crate) fn make_scene(
     names: &[&str],
     pairs: &[(u32, u32)],
 ) -> Result<Scene, Fail> {
+    scene_of(alloc, records_of(alloc, rows)?, names, pairs)
+}
+
+/// The records of the rows.
+pub(crate) fn records_of(alloc: Global, rows: &[Row]) -> Result<Vec<Record>, Fail> {
     let mut list = Vec::new(alloc);
     for row in rows {
         list.push(record_of(alloc, row)?)?;
     }
-    scene_of(alloc, list, names, pairs)
+    Ok(list)
 }
 
 /// The scene of the records.
@@ -58,16 +63,20 @@ pub(crate) fn scene_of(
     names: &[&str],
     pairs: &[(u32, u32)],
 ) -> Result<Scene, Fail> {
+    let graph = graph_of(alloc, list)?;
+    scene_over(alloc, graph, order_of(alloc, names, pairs)?)
+}
+
+/// The graph of the records.
+pub(crate) fn graph_of(alloc: Global, list: Vec<Record>) -> Result<Graph, Fail> {
     if !are_in_order(list.as_slice()) {
         return Err(Fail::new("records are not in order"));
     }
     let records = Records::of(list);
-    let order = order_of(alloc, names, pairs)?;
     if !are_finished(alloc, &records)? {
         return Err(Fail::new("records are not finished"));
     }
-    let graph = Graph::of_records(alloc, &records)?;
-    scene_over(alloc, graph, order)
+    Ok(Graph::of_records(alloc, &records)?)
 }
 
 /// The scene of a graph and an order.

@@ -1,4 +1,4 @@
-//! Plans, verdicts and rows of small graphs.
+//! Orders, plans, verdicts and rows of small graphs.
 ghost use Rattle.std.specs.Prelude.{◌<◌, ◌≤◌, IfOk};
 ghost use Rattle.std.specs.List.{All};
 ghost use Rattle.cost_graph.specs.Graph.{thread_total, vertex_total, IsVertexBelow, IsWellFormed};
@@ -8,9 +8,9 @@ ghost use Rattle.response_report.specs.declared.row.Row.{Row as TheLine};
 
 use crate::report::rows;
 use crate::row::Row as Line;
-use crate::tests::build::{Row, Scene, Step, make_scene};
+use crate::tests::build::{Row, Scene, Step, graph_of, make_scene, records_of};
 use crate::text::response_text;
-use cost_graph::{Shape, well_formed};
+use cost_graph::{Shape, has_cycle, topological, well_formed};
 use prompt_checker::{
     Flaw, FlawKind, Schedule, ScheduleFault, Verdict, judge, plan_text, read_schedule,
 };
@@ -218,6 +218,20 @@ fn plan_of_an_urgent_root(rt: HostRuntime) -> Result<(), Fail> {
     let plan = plan_of(rt.alloc(), &scene, 2)?;
     let text = plan_text(rt.alloc(), &scene.graph, &plan)?;
     assert_eq!(rt; text.as_slice(), b"0:0\n0:1\n0:2 0.0:0\n0.0:1\n".as_slice());
+    Ok(())
+}
+
+// The child's vertices are 3 to 5: its second waits for its last, so that a cycle leads to both.
+#[test]
+fn order_before_a_cycle(rt: HostRuntime) -> Result<(), Fail> {
+    let rows: [Row; 2] = [
+        (None, 0, APART[0]),
+        (Some(0), 0, &[Step::Start, Step::Join(0), Step::End]),
+    ];
+    let graph = graph_of(rt.alloc(), records_of(rt.alloc(), &rows)?)?;
+    assert!(rt; has_cycle(rt.alloc(), &graph)?);
+    let order = topological(rt.alloc(), &graph)?;
+    assert_eq!(rt; order.as_slice(), [0, 1, 2, 3].as_slice());
     Ok(())
 }
 

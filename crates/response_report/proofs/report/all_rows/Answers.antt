@@ -3,7 +3,7 @@ use Rattle.std.specs.List.{All}
 use Rattle.std.proofs.lemmas.List.{get_or_read}
 use Rattle.priority_order.specs.Order.{IsLawful}
 use Rattle.cost_graph.specs.Graph.{thread_total, parents_at}
-use Rattle.cost_graph.proofs.Above.{in_order_or_cyclic}
+use Rattle.cost_graph.proofs.Above.{sorted_where_acyclic}
 use Rattle.cost_graph.proofs.Ends.{last_below, thread_within}
 use Rattle.cost_graph.proofs.Visits.{parents_below}
 use Rattle.prompt_checker.specs.Read.{steps_of}
@@ -16,7 +16,7 @@ pub places_of-requires-clause-within : goal.places_of-requires-clause-within
 places_of-requires-clause-within c = λ v k. (c.requires.prompt.valid.all v).1 k
 
 pub measure_along-requires-clause-along : goal.measure_along-requires-clause-along
-measure_along-requires-clause-along c = in_order_or_cyclic c.args.graph.now c.in_ok-along.along.items c.requires.acyclic c.in_ok-along.ensures
+measure_along-requires-clause-along c = sorted_where_acyclic c.args.graph.now c.in_ok-along.along.items c.requires.acyclic c.in_ok-along.ensures.whole
 
 pub parents_of-requires : goal.parents_of-requires
 parents_of-requires c =

@@ -1,4 +1,4 @@
-use Rattle.std.proofs.Common.{◌≡◌, ◌<◌, ◌∙◌, sym, length, subst, arith}
+use Rattle.std.proofs.Common.{◌≡◌, ◌<◌, length, subst, arith}
 use Rattle.std.specs.List.{All}
 use Rattle.cost_graph.specs.declared.graph.Thread.{Thread}
 use Rattle.response_report.proofs.Worked.{one_well_formed}

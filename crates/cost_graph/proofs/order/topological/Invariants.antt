@@ -1,6 +1,6 @@
 use Rattle.cost_graph.specs.Marks.{unmarked}
 use Rattle.cost_graph.proofs.Sorting.{IsSorting}
-use Rattle.cost_graph.proofs.order.sorted.Given as goal
+use Rattle.cost_graph.proofs.order.topological.Given as goal
 
 abbrev pub invariant-places : goal.invariant-places
 invariant-places l = IsSorting l.graph l.marks.items l.seen.items l.order.items l.place

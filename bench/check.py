@@ -1,7 +1,7 @@
 #!/usr/bin/env python3
 """Times `check` beside sha256sum on texts of 1, 2 and 4 MB.
 
-    bench/check.py [PROGRAM] [--only KIND]
+    bench/check.py [PROGRAM] [--only KIND] [--huge-pages]
 
 Typable programs, of which a ratio of 8 is the most that may be:
   threads   blocks in blocks: spawn, sync and ret, up to 32 variables in scope and 60 open brackets
@@ -13,7 +13,7 @@ Hostile texts, of which a ratio of 20 is the most that may be:
   type      one type of half a million nodes for each megabyte and a half
   comment   a comment that fills the text
 The time is processor time, user and system, the least of seven runs, in milliseconds; the ratio is that of the two times.
-The program runs with huge pages for its memory, as `./priml` starts it; with --small-pages it runs without them.
+The program runs by itself; with --huge-pages it runs with huge pages for its memory, as `./priml` starts it.
 """
 import argparse
 import os
@@ -234,10 +234,10 @@ def main():
     parser = argparse.ArgumentParser(description="Times `check` beside sha256sum.")
     parser.add_argument("program", nargs="?", default=os.path.join(TOP, "crates", "priml", "out", "priml"))
     parser.add_argument("--only", choices=sorted(KINDS), help="one kind of text alone")
-    parser.add_argument("--small-pages", action="store_true", help="without huge pages")
+    parser.add_argument("--huge-pages", action="store_true", help="with huge pages for the program's memory")
     args = parser.parse_args()
     environment = dict(os.environ)
-    if not args.small_pages:
+    if args.huge_pages:
         environment.setdefault("GLIBC_TUNABLES", "glibc.malloc.hugetlb=1")
     program = os.path.abspath(args.program)
     print("%-10s %4s %12s %12s %8s  %s" % ("text", "MB", "check ms", "sha256 ms", "ratio", "answer"))

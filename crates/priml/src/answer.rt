@@ -13,7 +13,7 @@ use crate::refusal::{
 };
 use priml_io::{Command, ReadStop, Source, read_all, read_words, split};
 use priml_syntax::Program;
-use source_reader::read_source_leaving;
+use source_reader::read_source_with_tree;
 use std::alloc::Global;
 use std::mem::forget;
 use type_rules::{TypeStop, check};
@@ -61,10 +61,10 @@ fn on_sections(alloc: Global, input: &[u8]) -> Reply
 fn on_text(alloc: Global, text: &[u8]) -> Reply
     ensures { ReplyIs (OnText text.now) result }
 {
-    let mut rest = None;
-    let read = read_source_leaving(alloc, text, &mut rest);
+    let mut tree = None;
+    let read = read_source_with_tree(alloc, text, &mut tree);
     // the process ends soon: to free the tree node by node takes as long as to resolve it
-    forget(rest);
+    forget(tree);
     match read {
         Ok(program) => on_program(alloc, program),
         Err(fault) => match source_refusal(fault) {

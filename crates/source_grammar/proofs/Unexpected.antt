@@ -1,5 +1,7 @@
 -- The place where a text leaves the grammar.
-use Rattle.std.proofs.Common.{ℕ, ◌+◌, ◌-◌, List, [], ◌∷◌, ◌++◌, ◌≡◌, Some, None, length, take, length-append, sym, refl, ap, ◌∙◌, arith, append_assoc}
+use Rattle.std.proofs.Common.{ℕ, ◌+◌, List, [], ◌∷◌, ◌++◌, ◌≡◌, Option, Some, None, length, take, length-append, sym, refl, ap, ◌∙◌, arith, append_assoc, slice_get, MatchOption}
+use Rattle.std.proofs.Math.Seq.{get_or-append_seam}
+use Rattle.std.proofs.lemmas.Option.{slice_get-get_or, slice_get_past}
 use Rattle.std.proofs.lemmas.Grind.{common_steps}
 use Rattle.source_tokens.specs.declared.token.Token.{Token}
 use Rattle.source_grammar.specs.Faults.{kinds, Viable, IsUnexpected}
@@ -58,7 +60,16 @@ placed : (ts before r : List Token) (n : ℕ) → ts ≡ before ++ r → n ≡ l
 placed ts before [] n e l h = let m : n ≡ length ts = omega (arith, ap length e, length-append before []) in rw m (at_end ts h)
 placed ts before (t ∷ r) n e l h = rw (e, l) (at_token before r t (rw e at h))
 
-pub unexpected : (ts r : List Token) (n : ℕ) → n ≡ length ts - length r → halt (Program ∷ []) ts ≡ Some r → IsUnexpected ts n
-unexpected ts r n l h =
+seam : (before r : List Token) (t : Token) → slice_get (before ++ t ∷ r) (length before) ≡ Some t
+seam before r t = slice_get-get_or (before ++ t ∷ r) (length before) t (omega (arith, length-append before (t ∷ r))) ∙ ap Some (get_or-append_seam before t r t)
+
+found_at : (ts before r : List Token) (t : Option Token) → ts ≡ before ++ r → MatchOption t (r ≡ []) (λ x. (us : List Token) × (r ≡ x ∷ us)) → slice_get ts (length before) ≡ t
+found_at ts before r None e empty = slice_get_past ts (length before) (omega (arith, ap length e, length-append before r, ap length empty))
+found_at ts before r (Some x) e some = ap (λ l. slice_get l (length before)) (e ∙ ap (λ l. before ++ l) some.1) ∙ seam before some.0 x
+
+-- the first token that is left is the one with which the text leaves the grammar
+pub unexpected : (ts r : List Token) (t : Option Token) → halt (Program ∷ []) ts ≡ Some r → MatchOption t (r ≡ []) (λ x. (us : List Token) × (r ≡ x ∷ us))
+    → (n : ℕ) × IsUnexpected ts n × (slice_get ts n ≡ t)
+unexpected ts r t h first =
     let p = halt_rest ts (Program ∷ []) r h in
-    placed ts p.0 r n p.1 (omega (arith, l, ap length p.1, length-append p.0 r)) h
+    (length p.0, placed ts p.0 r (length p.0) p.1 refl h, found_at ts p.0 r t p.1 first)

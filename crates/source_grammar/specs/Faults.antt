@@ -1,5 +1,5 @@
 -- Why tokens stand for no program.
-use Rattle.std.specs.Prelude.{◌≡◌, ℕ, ◌+◌, ◌≤◌, ◌<◌, List, ◌++◌, map, take, length}
+use Rattle.std.specs.Prelude.{◌≡◌, ℕ, ◌+◌, ◌≤◌, ◌<◌, List, ◌++◌, map, take, length, slice_get}
 use Rattle.source_tokens.specs.declared.token.Token.{Token}
 use Rattle.source_tokens.specs.declared.token.Kind.{Kind}
 use Rattle.source_grammar.specs.declared.program.ParseStop.{ParseStop}
@@ -29,10 +29,10 @@ pub record IsUnexpected (ts : List Token) (n : ℕ) : Type 0 where
 
 -- what a refusal says: where a token is unexpected, the tokens stand for no program
 abbrev pub Refuses : List Token → ParseStop → Type 0
-Refuses ts (Unexpected n) = (p : RawTree) → IsProgram ts p → ⊥
+Refuses ts (Unexpected t) = (p : RawTree) → IsProgram ts p → ⊥
 Refuses ts OutOfMemory = Unit {0}
 
--- what the index of a refusal says
+-- what the token of a refusal says: it stands at the place where the text leaves the grammar, and there is none at the end
 abbrev pub StopsAt : List Token → ParseStop → Type 0
-StopsAt ts (Unexpected n) = IsUnexpected ts n
+StopsAt ts (Unexpected t) = (n : ℕ) × IsUnexpected ts n × (slice_get ts n ≡ t)
 StopsAt ts OutOfMemory = Unit {0}

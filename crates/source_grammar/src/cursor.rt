@@ -1,10 +1,11 @@
 //! The tokens that are left to read.
 
-ghost use Rattle.std.specs.Prelude.{◌≡◌, ◌∷◌, [], IfOk, OnOk, MatchOption, length};
+ghost use Rattle.std.specs.Prelude.{◌≡◌, ◌∷◌, ◌++◌, [], IfOk, OnOk, MatchOption, length};
 ghost use Rattle.source_grammar.specs.Grammar.{name, sign, word};
 ghost use Rattle.source_grammar.specs.Machine.{AName, ASign, AWord};
 ghost use Rattle.source_grammar.specs.Next.{declaration_form, action_form, expr_form, form_at, is_at, is_end, is_name, is_sign, joint_form, mid_form, tail_form, ty_form};
 ghost use Rattle.source_grammar.specs.Stops.{Moves, MovesAll};
+ghost use Rattle.source_tokens.specs.Runs.{joined};
 
 use crate::choice::{
     ActionForm, DeclarationForm, ExprForm, Joint, Mid, Prefix, Side, TailForm, TyForm,
@@ -33,34 +34,42 @@ impl From<AllocError> for Stop {
     }
 }
 
-/// The tokens that are left, from the next one on.
+/// The tokens that are left, from the next one on: those of a run and of the runs behind it.
 #[derive(Drop)]
 pub struct Tokens<'a> {
     rest: &'a [Token],
+    later: &'a [Vec<Token>],
+    ghost settled: { rest.now ≡ [] → joined later.now ≡ [] },
 }
 
 impl<'a> Model for Tokens<'a> {
-    ghost use Rattle.std.specs.Prelude.{List};
+    ghost use Rattle.std.specs.Prelude.{◌++◌, List};
     ghost use Rattle.source_tokens.specs.declared.token.Token.{Token};
+    ghost use Rattle.source_tokens.specs.Runs.{joined};
 
     ghost Value = { List Token };
 
-    ghost view = { λ t. t.rest.now };
+    ghost view = { λ t. t.rest.now ++ joined t.later.now };
 }
 
 impl<'a> Tokens<'a> {
-    /// All of the tokens.
-    pub fn new(tokens: &'a [Token]) -> Tokens<'a>
-        ensures { result ≡ tokens.now }
+    /// All of the tokens of these runs.
+    pub fn new(runs: &'a [Vec<Token>]) -> Tokens<'a>
+        ensures { result ≡ joined runs.now }
     {
-        Tokens { rest: tokens }
-    }
-
-    /// How many tokens are left.
-    pub fn len(&self) -> usize
-        ensures { result ≡ length self.now }
-    {
-        self.rest.len()
+        match runs.split_first() {
+            None => Tokens {
+                rest: &[],
+                later: runs,
+            },
+            Some((run, later)) => {
+                if run.is_empty() {
+                    Tokens::new(later)
+                } else {
+                    Tokens { rest: run, later }
+                }
+            }
+        }
     }
 
     /// The next token, which stays.
@@ -75,7 +84,11 @@ impl<'a> Tokens<'a> {
         ensures { MatchOption result ((self.old ≡ []) × (self.new ≡ [])) (λ t. self.old ≡ t ∷ self.new) }
     {
         let (first, rest) = self.rest.split_first()?;
-        self.rest = rest;
+        if rest.is_empty() {
+            *self = Tokens::new(self.later);
+        } else {
+            self.rest = rest;
+        }
         Some(*first)
     }
 
@@ -83,14 +96,13 @@ impl<'a> Tokens<'a> {
     pub fn is_at_name(&self) -> bool
         ensures { result ≡ is_at is_name self.now }
     {
-        match self.rest {
-            [
+        match self.peek() {
+            Some(
                 Token {
                     kind: Kind::Name(_),
                     ..
                 },
-                ..
-            ] => true,
+            ) => true,
             _ => false,
         }
     }
@@ -129,7 +141,7 @@ impl<'a> Tokens<'a> {
     pub fn ty_form(&self) -> Option<TyForm>
         ensures { result ≡ form_at ty_form self.now }
     {
-        match self.rest.first()?.kind {
+        match self.peek()?.kind {
             Kind::Word(Word::Unit | Word::Bool | Word::Int) => Some(TyForm::Simple),
             Kind::Word(Word::Thread) => Some(TyForm::Thread),
             Kind::Sign(Sign::OpenParen) => Some(TyForm::Paired),
@@ -141,7 +153,7 @@ impl<'a> Tokens<'a> {
     pub fn mid_form(&self) -> Option<Mid>
         ensures { result ≡ form_at mid_form self.now }
     {
-        match self.rest.first()?.kind {
+        match self.peek()?.kind {
             Kind::Sign(Sign::Star) => Some(Mid::Star),
             Kind::Sign(Sign::Plus) => Some(Mid::Plus),
             _ => None,
@@ -152,7 +164,7 @@ impl<'a> Tokens<'a> {
     pub fn expr_form(&self) -> Option<ExprForm>
         ensures { result ≡ form_at expr_form self.now }
     {
-        match self.rest.first()?.kind {
+        match self.peek()?.kind {
             Kind::Name(_) | Kind::Number(_) | Kind::Word(Word::True | Word::False) => Some(
                 ExprForm::Leaf,
             ),
@@ -170,7 +182,7 @@ impl<'a> Tokens<'a> {
     pub fn joint_form(&self) -> Option<Joint>
         ensures { result ≡ form_at joint_form self.now }
     {
-        match self.rest.first()?.kind {
+        match self.peek()?.kind {
             Kind::Sign(Sign::Comma) => Some(Joint::Comma),
             Kind::Sign(Sign::Plus) => Some(Joint::Operator(Op::Add)),
             Kind::Sign(Sign::Minus) => Some(Joint::Operator(Op::Sub)),
@@ -190,7 +202,7 @@ impl<'a> Tokens<'a> {
     pub fn action_form(&self) -> Option<ActionForm>
         ensures { result ≡ form_at action_form self.now }
     {
-        match self.rest.first()?.kind {
+        match self.peek()?.kind {
             Kind::Word(Word::Ret) => Some(ActionForm::Returned),
             Kind::Word(Word::Spawn) => Some(ActionForm::Spawn),
             Kind::Word(Word::Sync) => Some(ActionForm::Sync),
@@ -206,7 +218,7 @@ impl<'a> Tokens<'a> {
     pub fn tail_form(&self) -> Option<TailForm>
         ensures { result ≡ form_at tail_form self.now }
     {
-        match self.rest.first()?.kind {
+        match self.peek()?.kind {
             Kind::Word(Word::Ret) => Some(TailForm::Give),
             Kind::Word(Word::If) => Some(TailForm::Branch),
             Kind::Word(Word::Case) => Some(TailForm::Split),
@@ -218,7 +230,7 @@ impl<'a> Tokens<'a> {
     pub fn declaration_form(&self) -> Option<DeclarationForm>
         ensures { result ≡ form_at declaration_form self.now }
     {
-        match self.rest.first()?.kind {
+        match self.peek()?.kind {
             Kind::Word(Word::Priority) => Some(DeclarationForm::Priority),
             Kind::Word(Word::Order) => Some(DeclarationForm::Order),
             Kind::Word(Word::Proc) => Some(DeclarationForm::Procedure),
@@ -298,10 +310,9 @@ impl<'a> Tokens<'a> {
         ensures ok { OnOk result (self.now ≡ []) }
         ensures moves { MovesAll [] self.now self.now result }
     {
-        if self.rest.is_empty() {
-            Ok(())
-        } else {
-            Err(Stop::Syntax)
+        match self.peek() {
+            None => Ok(()),
+            Some(_) => Err(Stop::Syntax),
         }
     }
 }

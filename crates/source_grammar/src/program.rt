@@ -7,6 +7,7 @@ ghost use Rattle.source_grammar.specs.Machine.{Main, Order, Priority, Program, d
 ghost use Rattle.source_grammar.specs.RawRead.{read_decl, read_main, read_raw};
 ghost use Rattle.source_grammar.specs.RawTree.{RawTree};
 ghost use Rattle.source_grammar.specs.Stops.{Moves, MovesAll, MovesTo};
+ghost use Rattle.source_tokens.specs.Runs.{joined};
 
 use crate::choice::DeclarationForm;
 use crate::cursor::{Stop, Tokens};
@@ -19,24 +20,23 @@ use std::alloc::Global;
 /// Why tokens stand for no program.
 #[derive(Clone, Copy, Debug, PartialEq, Eq)]
 pub enum ParseStop {
-    /// The token at this index, or the end where it is the number of tokens, is the first with which the text leaves
-    /// the grammar.
-    Unexpected(usize),
+    /// The first token with which the text leaves the grammar; none where that is the end of the tokens.
+    Unexpected(Option<Token>),
     /// The tree does not fit in memory.
     OutOfMemory,
 }
 
-/// The tree of a text's tokens. It is the only one.
-pub fn parse(alloc: Global, tokens: &[Token]) -> Result<RawProgram, ParseStop>
-    ensures program { IfOk result (λ p. IsProgram tokens.now (read_raw p)) }
-    ensures only { IfOk result (λ p. (q : RawTree) → IsProgram tokens.now q → q ≡ read_raw p) }
-    ensures none { IfErr result (Refuses tokens.now) }
-    ensures unexpected { IfErr result (StopsAt tokens.now) }
+/// The tree of a text's tokens, which are in runs. It is the only one.
+pub fn parse(alloc: Global, runs: &[Vec<Token>]) -> Result<RawProgram, ParseStop>
+    ensures program { IfOk result (λ p. IsProgram (joined runs.now) (read_raw p)) }
+    ensures only { IfOk result (λ p. (q : RawTree) → IsProgram (joined runs.now) q → q ≡ read_raw p) }
+    ensures none { IfErr result (Refuses (joined runs.now)) }
+    ensures unexpected { IfErr result (StopsAt (joined runs.now)) }
 {
-    let mut rest = Tokens::new(tokens);
+    let mut rest = Tokens::new(runs);
     match program(alloc, &mut rest) {
         Ok(program) => Ok(program),
-        Err(Stop::Syntax) => Err(ParseStop::Unexpected(tokens.len() - rest.len())),
+        Err(Stop::Syntax) => Err(ParseStop::Unexpected(rest.peek())),
         Err(Stop::Memory) => Err(ParseStop::OutOfMemory),
     }
 }

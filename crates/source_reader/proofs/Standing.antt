@@ -1,7 +1,8 @@
 -- What a text stands for, by its tree, and what its fault is where it stands for no program.
-use Rattle.std.proofs.Common.{◌≡◌, ◌≢◌, ℕ, ◌≤◌, List, [], ◌∷◌, length, slice_get, Some, None, append-nil, refl, sym, subst, ◌∙◌, arith, Result, Ok, Err}
+use Rattle.std.proofs.Common.{◌≡◌, ◌≢◌, ℕ, ◌≤◌, ◌<◌, List, [], ◌∷◌, ◌⊎◌, inl, inr, length, slice_get, get_or, Option, Some, None, append-nil, refl, sym, subst, ◌∙◌, arith, Result, Ok, Err}
 use Rattle.std.specs.Prelude.{IfOk, IfErr}
 use Rattle.std.proofs.lemmas.List.{take_all}
+use Rattle.std.proofs.lemmas.Option.{slice_get_cases}
 use Rattle.priml_syntax.specs.declared.program.Program.{Program}
 use Rattle.priml_syntax.specs.Tree.{Tree}
 use Rattle.priml_syntax.specs.Read.{read_program}
@@ -63,6 +64,13 @@ all_viable ts q is = record { tokens = ts; more = []; tree = q; same = refl; is 
 -- a token with which the text leaves the grammar
 pub leaves : (text : List ℕ) (ts : List Token) (ns : List (List ℕ)) (end : Stop) (n : ℕ) (t : Token) → IsLexed text ts ns end → IsUnexpected ts n → slice_get ts n ≡ Some t → Refuses text (Unexpected t.at)
 leaves text ts ns end n t lexed is at = (unexpected n t lexed is at, no_program text ts ns end lexed is.none)
+
+-- no token stands behind them all
+pub past : (ts : List Token) (n : ℕ) → slice_get ts n ≡ None → length ts ≤ n
+past ts n none = by (slice_get_cases ts n).1 where
+  by : ((t : Token) × (n < length ts) × (slice_get ts n ≡ Some t) × (get_or ts n t ≡ t)) ⊎ ((length ts ≤ n) × (slice_get ts n ≡ None)) → length ts ≤ n
+  by (inl some) = let clash : ◌≡◌ {A = Option Token} None (Some some.0) = sym none ∙ some.2 in absurd (cc)
+  by (inr h) = h.0
 
 -- all tokens begin some program and are none, and the text stops behind them
 all_before : (ts : List Token) (n : ℕ) → length ts ≤ n → IsUnexpected ts n → Viable (kinds ts)

@@ -13,4 +13,4 @@ mod resolve;
 mod term;
 
 pub use faults::{Fault, What};
-pub use reader::{SourceFault, Written, read_source, read_source_leaving};
+pub use reader::{SourceFault, SourceTree, read_source, read_source_with_tree};

@@ -20,7 +20,7 @@ use std::alloc::{AllocError, Global};
 pub fn priorities(alloc: Global, names: &Names, list: &[Name]) -> Result<Vec<Prio>, ResolveStop>
     ensures { Gives (prios_faults (env_in names.now) list.now) (prios_meant (env_in names.now) list.now) (λ v. v.items) result }
 {
-    let mut all = Vec::new(alloc);
+    let mut all = Vec::with_capacity(alloc, list.len())?;
     for name in list {
         let found = priority(names, name)?;
         push_priority(&mut all, found)?;
@@ -39,7 +39,7 @@ pub fn expressions(
     requires fits { TermsFit (map read_expr list.now) }
     ensures { Gives (terms_faults (env_in names.now) (map read_expr list.now) scope.now) (terms_meant (env_in names.now) (map read_expr list.now) scope.now) (λ v. map read_term v.items) result }
 {
-    let mut all = Vec::new(alloc);
+    let mut all = Vec::with_capacity(alloc, list.len())?;
     for raw in list {
         let e = expression(alloc, names, scope, raw)?;
         push_expression(&mut all, e)?;

@@ -1,6 +1,6 @@
 //! Reads the text of a program.
 
-ghost use Rattle.std.specs.Prelude.{◌≡◌, ◌≢◌, [], ℕ, List, IsAscii, IfOk, IfErr, MatchOption};
+ghost use Rattle.std.specs.Prelude.{◌≡◌, ◌≢◌, [], ℕ, List, None, IsAscii, IfOk, IfErr, MatchOption, slice_get};
 ghost use Rattle.std.specs.List.{All};
 ghost use Rattle.indexmap.specs.IndexSet.{index_set_len};
 ghost use Rattle.priml_syntax.specs.Tree.{Tree};
@@ -8,6 +8,7 @@ ghost use Rattle.priml_syntax.specs.Read.{read_program};
 ghost use Rattle.priml_syntax.specs.Scoped.{IsScoped};
 ghost use Rattle.source_tokens.specs.Lexes.{IsLexed};
 ghost use Rattle.source_tokens.specs.Names.{name_bytes};
+ghost use Rattle.source_tokens.specs.Runs.{joined};
 ghost use Rattle.source_grammar.specs.Faults.{IsUnexpected};
 ghost use Rattle.source_grammar.specs.Grammar.{IsProgram};
 ghost use Rattle.source_grammar.specs.RawRead.{read_raw};
@@ -68,39 +69,39 @@ pub fn read_source(alloc: Global, text: &[u8]) -> Result<Program, SourceFault>
     ensures refused { IfErr result (Refuses text.now) }
     ensures one { IfErr result (λ e. e ≢ SourceFault.OutOfMemory → (f : SourceFault) → IsFaultOf text.now f → f ≡ e) }
 {
-    let mut rest = None;
-    read_source_leaving(alloc, text, &mut rest)
+    let mut tree = None;
+    read_source_with_tree(alloc, text, &mut tree)
 }
 
 /// The same, but the tree that was read on the way is left to the caller: to free it node by node takes as long as to resolve it, and a
 /// process that ends soon need not.
-pub fn read_source_leaving(
+pub fn read_source_with_tree(
     alloc: Global,
     text: &[u8],
-    rest: &mut Option<Written>,
+    tree: &mut Option<SourceTree>,
 ) -> Result<Program, SourceFault>
     ensures program { IfOk result (λ p. Stands text.now (read_program p)) }
     ensures scoped { IfOk result (λ p. IsScoped (read_program p)) }
     ensures only { IfOk result (λ p. (q : Tree) → Stands text.now q → q ≡ read_program p) }
     ensures refused { IfErr result (Refuses text.now) }
     ensures one { IfErr result (λ e. e ≢ SourceFault.OutOfMemory → (f : SourceFault) → IsFaultOf text.now f → f ≡ e) }
-    ensures left { IfOk result (λ p. MatchOption rest.new ⊥ (λ w. IsWrittenAs text.now (name_bytes w.names) (read_raw w.raw))) }
+    ensures left { IfOk result (λ p. MatchOption tree.new ⊥ (λ w. IsWrittenAs text.now (name_bytes w.names) (read_raw w.raw))) }
 {
-    let written = tree(alloc, text)?;
+    let written = written(alloc, text)?;
     let read = program(alloc, &written.names, &written.raw);
-    *rest = Some(written);
+    *tree = Some(written);
     read
 }
 
 /// A text as a tree over its distinct names, which are not resolved.
 #[derive(Drop)]
-pub struct Written {
+pub struct SourceTree {
     names: IndexSet<Vec<u8>>,
     raw: RawProgram,
 }
 
 // The tree that the text is written as.
-fn tree(alloc: Global, text: &[u8]) -> Result<Written, SourceFault>
+fn written(alloc: Global, text: &[u8]) -> Result<SourceTree, SourceFault>
     ensures written { IfOk result (λ w. IsWrittenAs text.now (name_bytes w.names) (read_raw w.raw)) }
     ensures only { IfOk result (λ w. (ns : List (List ℕ)) (q : RawTree) → IsWrittenAs text.now ns q → (ns ≡ name_bytes w.names) × (q ≡ read_raw w.raw)) }
     ensures refused { IfErr result (Refuses text.now) }
@@ -111,39 +112,36 @@ fn tree(alloc: Global, text: &[u8]) -> Result<Written, SourceFault>
         stop,
     } = lex(alloc, text)?;
     let raw = whole(alloc, text, &tokens, stop)?;
-    Ok(Written { names, raw })
+    Ok(SourceTree { names, raw })
 }
 
 // The tree of these tokens, if they are those of the whole text.
 fn whole(
     alloc: Global,
     text: &[u8],
-    tokens: &[Token],
+    runs: &[Vec<Token>],
     stop: Stop,
 ) -> Result<RawProgram, SourceFault>
-    ensures derived { IfOk result (λ raw. IsProgram tokens.now (read_raw raw)) }
-    ensures only { IfOk result (λ raw. (q : RawTree) → IsProgram tokens.now q → q ≡ read_raw raw) }
+    ensures derived { IfOk result (λ raw. IsProgram (joined runs.now) (read_raw raw)) }
+    ensures only { IfOk result (λ raw. (q : RawTree) → IsProgram (joined runs.now) q → q ≡ read_raw raw) }
     ensures done { IfOk result (λ raw. stop ≡ Stop.Done) }
-    ensures refused { IfErr result (λ e. (ns : List (List ℕ)) → IsLexed text.now tokens.now ns stop → Refuses text.now e) }
+    ensures refused { IfErr result (λ e. (ns : List (List ℕ)) → IsLexed text.now (joined runs.now) ns stop → Refuses text.now e) }
 {
-    match parse(alloc, tokens) {
+    match parse(alloc, runs) {
         Ok(raw) => match fault_of(stop) {
             None => Ok(raw),
             Some(fault) => Err(fault),
         },
-        Err(ParseStop::Unexpected(n)) => Err(unexpected(text, tokens, stop, n)),
+        Err(ParseStop::Unexpected(Some(token))) => Err(SourceFault::Unexpected(token.at)),
+        Err(ParseStop::Unexpected(None)) => Err(cut_off(text, stop)),
         Err(ParseStop::OutOfMemory) => Err(SourceFault::OutOfMemory),
     }
 }
 
-// The fault where token `n` is unexpected, or the end, where that is the number of tokens.
-fn unexpected(text: &[u8], tokens: &[Token], stop: Stop, n: usize) -> SourceFault
-    requires { IsUnexpected tokens.now n }
-    ensures { (ns : List (List ℕ)) → IsLexed text.now tokens.now ns stop → Refuses text.now result }
+// The fault of a text whose tokens all begin a program and are none.
+fn cut_off(text: &[u8], stop: Stop) -> SourceFault
+    ensures { (ts : List Token) (ns : List (List ℕ)) (n : ℕ) → slice_get ts n ≡ None → IsUnexpected ts n → IsLexed text.now ts ns stop → Refuses text.now result }
 {
-    if n < tokens.len() {
-        return SourceFault::Unexpected(tokens[n].at);
-    }
     match fault_of(stop) {
         Some(fault) => fault,
         None => SourceFault::Unexpected(text.len() as u64),

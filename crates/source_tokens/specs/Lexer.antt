@@ -5,12 +5,17 @@ use Rattle.source_tokens.specs.declared.token.Stop.{Stop}
 use Rattle.source_tokens.specs.declared.lexer.Lexer.{Lexer}
 use Rattle.source_tokens.specs.Lexes.{Lexes, IsLexed}
 use Rattle.source_tokens.specs.Names.{name_bytes}
+use Rattle.source_tokens.specs.Runs.{joined}
+
+-- the tokens so far
+abbrev pub tokens_of : Lexer → List Token
+tokens_of l = joined l.runs.items ++ l.run.items
 
 -- whatever the rest of the text is, with the tokens before it, is the text
 abbrev pub Leads : List ℕ → Lexer → Type 0
 Leads text l =
-    (ts : List Token) (ns : List (List ℕ)) (end : Stop) → Lexes l.total l.depth (name_bytes l.names) l.rest.now ts ns end → IsLexed text (l.tokens.items ++ ts) ns end
+    (ts : List Token) (ns : List (List ℕ)) (end : Stop) → Lexes l.total l.depth (name_bytes l.names) l.rest.now ts ns end → IsLexed text (tokens_of l ++ ts) ns end
 
 -- the text is the tokens and the names so far, and ends so
 abbrev pub Ends : List ℕ → Lexer → Stop → Type 0
-Ends text l end = IsLexed text l.tokens.items (name_bytes l.names) end
+Ends text l end = IsLexed text (tokens_of l) (name_bytes l.names) end

@@ -4,3 +4,4 @@ pub mod Lexemes
 pub mod Lexer
 pub mod Lexes
 pub mod Names
+pub mod Runs

@@ -1,10 +1,11 @@
 //! Cuts a text into tokens.
-ghost use Rattle.std.specs.Prelude.{◌≡◌, ◌≤◌, ◌<◌, ℕ, List, length, IsTrue, IfOk, IfSome, IfNone, MatchOption};
+ghost use Rattle.std.specs.Prelude.{◌≡◌, ◌≤◌, ◌<◌, ◌++◌, ◌∷◌, [], ℕ, List, length, IsTrue, IfOk, OnOk, IfSome, IfNone, MatchOption};
 ghost use Rattle.source_tokens.specs.declared.token.Token.{Token};
 ghost use Rattle.source_tokens.specs.declared.token.Stop.{Stop};
 ghost use Rattle.source_tokens.specs.Lexes.{opens, closes, open_behind, IsLexed};
 ghost use Rattle.source_tokens.specs.Laws.{AreLawful};
 ghost use Rattle.source_tokens.specs.Names.{spellings};
+ghost use Rattle.source_tokens.specs.Runs.{joined};
 
 use crate::bytes::skip;
 use crate::form::lexeme;
@@ -12,23 +13,29 @@ use crate::name::{RECENT, kind_of};
 use crate::token::{Kind, Sign, Stop, Token};
 use indexmap::IndexSet;
 use std::alloc::{AllocError, Global};
+use std::mem;
 
-/// The tokens of a text, its distinct names in the order of their first occurrence, and how it ends.
+/// How many tokens stand in a run.
+const RUN: usize = 4096;
+
+/// The tokens of a text, in runs, its distinct names in the order of their first occurrence, and how it ends.
 #[derive(Drop)]
 pub struct Lexed {
-    pub tokens: Vec<Token>,
+    pub tokens: Vec<Vec<Token>>,
     pub names: IndexSet<Vec<u8>>,
     pub stop: Stop,
 }
 
 // The tokens so far of a text of `total` bytes, and the `rest` of it, before which `depth` brackets are open. The numbers
-// of recent names save most searches among all names.
+// of recent names save most searches among all names. Tokens stand in runs, since one piece for all of them would be moved as it
+// grows, and its memory would not serve for the tree that is made next.
 #[derive(Drop)]
 struct Lexer<'a> {
     total: usize,
     rest: &'a [u8],
     depth: usize,
-    tokens: Vec<Token>,
+    runs: Vec<Vec<Token>>,
+    run: Vec<Token>,
     names: IndexSet<Vec<u8>>,
     recent: [usize; RECENT],
     ghost within: { length rest.now ≤ total },
@@ -67,6 +74,23 @@ fn open_behind(kind: Kind, depth: usize) -> Option<usize>
     }
 }
 
+// Appends a token to the last run, or to a new one where that is full.
+fn push(
+    alloc: Global,
+    runs: &mut Vec<Vec<Token>>,
+    run: &mut Vec<Token>,
+    token: Token,
+) -> Result<(), AllocError>
+    ensures { OnOk result (joined runs.new.items ++ run.new.items ≡ (joined runs.old.items ++ run.old.items) ++ token ∷ []) }
+{
+    if run.len() >= RUN {
+        let full = mem::replace(run, Vec::with_capacity(alloc, RUN)?);
+        runs.push(full)?;
+    }
+    run.push(token)?;
+    Ok(())
+}
+
 impl<'a> Lexer<'a> {
     ghost use Rattle.source_tokens.specs.Lexer.{Leads, Ends};
 
@@ -88,7 +112,7 @@ impl<'a> Lexer<'a> {
         let Some(kind) = kind_of(alloc, &mut self.names, &mut self.recent, form, lexeme)? else {
             return Ok(Some(Stop::BadNumber(at)));
         };
-        self.tokens.push(Token { at, kind })?;
+        push(alloc, &mut self.runs, &mut self.run, Token { at, kind })?;
         let Some(depth) = open_behind(kind, self.depth) else {
             return Ok(Some(Stop::TooDeep(at)));
         };
@@ -100,26 +124,31 @@ impl<'a> Lexer<'a> {
 
 /// Cuts a text into tokens, up to its end or its first fault. The names are distinct. A refusal is want of memory.
 pub fn lex(alloc: Global, text: &[u8]) -> Result<Lexed, AllocError>
-    ensures cut { IfOk result (λ l. IsLexed text.now l.tokens.items (spellings l) l.stop) }
+    ensures cut { IfOk result (λ l. IsLexed text.now (joined l.tokens.items) (spellings l) l.stop) }
     ensures only { IfOk result (λ l. (ts : List Token) (ns : List (List ℕ)) (end : Stop) → IsLexed text.now ts ns end
-        → (ts ≡ l.tokens.items) × (ns ≡ spellings l) × (end ≡ l.stop)) }
-    ensures lawful { IfOk result (λ l. AreLawful (length text.now) l.tokens.items (spellings l) l.stop) }
+        → (ts ≡ joined l.tokens.items) × (ns ≡ spellings l) × (end ≡ l.stop)) }
+    ensures lawful { IfOk result (λ l. AreLawful (length text.now) (joined l.tokens.items) (spellings l) l.stop) }
 {
-    // Most texts have fewer tokens than half their bytes, so these are seldom moved.
-    let tokens = Vec::with_capacity(alloc, text.len() / 2)?;
     let mut lexer = Lexer {
         total: text.len(),
         rest: text,
         depth: 0,
-        tokens,
+        runs: Vec::new(alloc),
+        run: Vec::new(alloc),
         names: IndexSet::new(alloc),
         recent: [0; RECENT],
     };
     loop {
         if let Some(stop) = lexer.advance(alloc)? {
-            let Lexer { tokens, names, .. } = lexer;
+            let Lexer {
+                mut runs,
+                run,
+                names,
+                ..
+            } = lexer;
+            runs.push(run)?;
             return Ok(Lexed {
-                tokens,
+                tokens: runs,
                 names,
                 stop,
             });

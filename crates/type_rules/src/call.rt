@@ -58,7 +58,7 @@ fn types_of<'p>(
     requires { AllInScope (length scope.now) (map read_term es.now) }
     ensures { MatchResult result (λ ts. HaveTypes (scope_of scope.now) (map read_term es.now) (map read_shared ts.items)) (TermsStop (scope_of scope.now) (map read_term es.now)) }
 {
-    let mut types = Vec::new(alloc);
+    let mut types = Vec::with_capacity(alloc, es.len())?;
     for e in es {
         let t = type_of(alloc, scope, e)?;
         push(&mut types, t)?;

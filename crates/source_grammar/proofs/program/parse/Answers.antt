@@ -1,14 +1,7 @@
-use Rattle.std.proofs.Common.{length, refl, ap, arith}
 use Rattle.source_grammar.proofs.Moves.{no_program}
 use Rattle.source_grammar.proofs.Unexpected.{unexpected}
 use Rattle.source_grammar.proofs.Unique.{program_unique}
-use Rattle.source_grammar.proofs.Viable.{halt_left}
 use Rattle.source_grammar.proofs.program.parse.Goals as goal
-
-pub overflow_sub-result : goal.overflow_sub-result
-overflow_sub-result c =
-    let e = rw c.in-Err-Syntax.field-0-is at c.in-Err-Syntax.ensures.moves in
-    omega (arith, c.len.ensures, halt_left _ _ _ e, ap length c.new-rest.ensures)
 
 pub returns-in-Ok-clause-only : goal.returns-in-Ok-clause-only
 returns-in-Ok-clause-only c = λ q h. program_unique _ _ _ h (rw c.new-rest.ensures at c.in-Ok.ensures.ok)
@@ -19,4 +12,4 @@ returns-in-Err-Syntax-clause-none c = no_program (rw (c.new-rest.ensures) at (rw
 pub returns-in-Err-Syntax-clause-unexpected : goal.returns-in-Err-Syntax-clause-unexpected
 returns-in-Err-Syntax-clause-unexpected c =
     let e = rw c.in-Err-Syntax.field-0-is at c.in-Err-Syntax.ensures.moves in
-    unexpected _ _ _ (rw c.len.ensures refl) (rw c.new-rest.ensures at e)
+    unexpected _ _ _ (rw c.new-rest.ensures at e) c.peek.ensures

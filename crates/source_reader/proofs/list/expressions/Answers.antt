@@ -17,7 +17,7 @@ returns-in_err-e c =
     let env = env_in c.args.names.now in
     let scope = c.args.scope.now in
     let e = c.in_err-e.field-0.0 in
-    handed_on (terms_faults env (map read_expr xs) scope) _ _ e _ c.from_residual.ensures.1
+    handed_on (terms_faults env (map read_expr xs) scope) _ _ e _ c.from_residual-in_err-e.ensures.1
     (gives_first (terms_faults env (map read_expr xs) scope) (term_faults env (read_expr d) scope) (terms_faults env (map read_expr (drop (i + 1) xs)) scope) e (c.loop-raw.invariant.faults ∙ ap (λ v. terms_faults env v scope) (next_term xs i d c.loop-raw-test.true c.raw-item.is)) c.in_err-e.ensures)
 
 pub loop-raw-preserved : goal.loop-raw-preserved

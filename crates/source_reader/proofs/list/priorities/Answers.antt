@@ -14,7 +14,7 @@ returns-in_err-found c =
     let d : Name = record { at = 0; id = 0 } in
     let env = env_in c.args.names.now in
     let e = c.in_err-found.field-0.0 in
-    handed_on (prios_faults env ns) _ _ e _ c.from_residual.ensures.1
+    handed_on (prios_faults env ns) _ _ e _ c.from_residual-in_err-found.ensures.1
     (gives_first (prios_faults env ns) (prio_faults env (get_or ns i d)) (prios_faults env (drop (i + 1) ns)) e (c.loop-name.invariant.faults ∙ ap (prios_faults env) (next_of ns i d c.loop-name-test.true)) c.in_err-found.ensures)
 
 pub loop-name-preserved : goal.loop-name-preserved

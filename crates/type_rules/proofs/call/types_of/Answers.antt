@@ -15,7 +15,7 @@ pub returns-in_err-t : goal.returns-in_err-t
 returns-in_err-t c =
     let es = c.args.es.now in
     let i = c.loop-e.e-index in
-    handed _ (TermsStop (scope_of c.args.scope.now) (map read_term es)) c.in_err-t.field-0.0 _ c.from_residual.ensures.1
+    handed _ (TermsStop (scope_of c.args.scope.now) (map read_term es)) c.in_err-t.field-0.0 _ c.from_residual-in_err-t.ensures.1
     (subst (λ x. TermsStop (scope_of c.args.scope.now) x c.in_err-t.field-0.0) (sym (split_terms es i c.e-item.result c.loop-e-test.true c.e-item.is))
     (stop_after (scope_of c.args.scope.now) (map read_term (take i es)) _ (read_term c.e-item.result) (map read_term (drop (i + 1) es)) c.in_err-t.field-0.0 c.loop-e.invariant c.in_err-t.ensures))
 

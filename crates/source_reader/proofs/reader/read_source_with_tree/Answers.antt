@@ -10,7 +10,7 @@ use Rattle.source_reader.proofs.Fitting.{lexed_fits, lexed_ascii, program_fits}
 use Rattle.source_reader.proofs.InOrder.{faults_ascend}
 use Rattle.source_reader.proofs.OneFault.{once_if, once_handed}
 use Rattle.source_reader.proofs.Standing.{scoped_if, only_if, refused_if}
-use Rattle.source_reader.proofs.reader.read_source_leaving.Goals as goal
+use Rattle.source_reader.proofs.reader.read_source_with_tree.Goals as goal
 
 pub program-read-requires-clause-fits : goal.program-read-requires-clause-fits
 program-read-requires-clause-fits c =

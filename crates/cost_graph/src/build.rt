@@ -2,8 +2,8 @@ ghost use Rattle.std.specs.Prelude.{◌≡◌, ℕ, ◌+◌, ◌<◌, ◌++◌, 
 ghost use Rattle.std.specs.List.{All, Contains, sum_by, list_any};
 ghost use Rattle.std.specs.List.Sorted.{IsStrictlyIncreasing};
 ghost use Rattle.cost_graph.specs.declared.graph.Thread.{Thread as TheThread};
-ghost use Rattle.cost_graph.specs.Graph.{IsOwner, Edge};
-ghost use Rattle.cost_graph.specs.View.{IsTurned, lists};
+ghost use Rattle.cost_graph.specs.Graph.{IsGraph, IsOwner, Edge};
+ghost use Rattle.cost_graph.specs.View.{IsTurned, AreFirsts, AreOwners, graph_of, lists};
 
 use crate::graph::Thread;
 use std::alloc::{AllocError, Global};
@@ -58,6 +58,23 @@ pub(crate) fn turn(alloc: Global, parents: &Vec<Vec<u32>>) -> Result<Vec<Vec<u32
         add_child(&mut children, &parents[v], v as u32)?;
     }
     Ok(children)
+}
+
+/// For each vertex its children, for each thread its first vertex, and for each vertex its thread.
+pub(crate) fn tables(
+    alloc: Global,
+    threads: &Vec<Thread>,
+    parents: &Vec<Vec<u32>>,
+) -> Result<(Vec<Vec<u32>>, Vec<u32>, Vec<u32>), AllocError>
+    requires { IsGraph (graph_of threads.now.items parents.now.items) }
+    ensures turned { IfOk result (λ t. IsTurned (graph_of threads.now.items parents.now.items) (lists t.0.items)) }
+    ensures firsts { IfOk result (λ t. AreFirsts (graph_of threads.now.items parents.now.items) t.1.items) }
+    ensures owners { IfOk result (λ t. AreOwners (graph_of threads.now.items parents.now.items) t.2.items) }
+{
+    let children = turn(alloc, parents)?;
+    let firsts = firsts_of(alloc, threads)?;
+    let owners = owners_of(alloc, threads)?;
+    Ok((children, firsts, owners))
 }
 
 // So many empty lists.

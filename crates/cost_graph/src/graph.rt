@@ -5,9 +5,9 @@ ghost use Rattle.std.specs.List.{Contains, HoldsAt};
 ghost use Rattle.cost_graph.specs.Graph.{CostGraph, vertex_total, thread_total, thread_at, parents_at, children_at, first_vertex, last_vertex, vertex_priority, IsGraph, IsOwner, IsVertexAt};
 ghost use Rattle.cost_graph.specs.View.{graph_of};
 
-use crate::build::{firsts_of, owners_of, turn};
+use crate::build::tables;
 use priml_syntax::Path;
-use std::alloc::{AllocError, Global};
+use std::alloc::{AllocFailed, Global};
 use std::cmp::Ordering;
 use std::marker::Model;
 
@@ -43,25 +43,29 @@ impl Model for Graph {
 }
 
 impl Graph {
-    /// The graph of these threads, whose edges to each vertex come from the vertices of its list.
+    /// The graph of these threads, whose edges to each vertex come from the vertices of its list. A refusal is want of memory, and hands
+    /// the lists back.
     pub fn of_parents(
         alloc: Global,
         threads: Vec<Thread>,
         parents: Vec<Vec<u32>>,
-    ) -> Result<Graph, AllocError>
+    ) -> Result<Graph, AllocFailed<(Vec<Thread>, Vec<Vec<u32>>)>>
         requires { IsGraph (graph_of threads.items parents.items) }
-        ensures { IfOk result (λ g. g ≡ graph_of threads.items parents.items) }
+        ensures made { IfOk result (λ g. g ≡ graph_of threads.items parents.items) }
+        ensures handed { IfErr result (λ e. e.value ≡ (threads, parents)) }
     {
-        let children = turn(alloc, &parents)?;
-        let firsts = firsts_of(alloc, &threads)?;
-        let owners = owners_of(alloc, &threads)?;
-        Ok(Graph {
-            threads,
-            parents,
-            children,
-            firsts,
-            owners,
-        })
+        match tables(alloc, &threads, &parents) {
+            Ok((children, firsts, owners)) => Ok(Graph {
+                threads,
+                parents,
+                children,
+                firsts,
+                owners,
+            }),
+            Err(_) => Err(AllocFailed {
+                value: (threads, parents),
+            }),
+        }
     }
 
     /// How many threads there are.

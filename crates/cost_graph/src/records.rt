@@ -42,7 +42,8 @@ impl Graph {
         let spawns = spawn_lists(alloc, list)?;
         let tables = Tables { firsts, spawns };
         let parents = all_parents(alloc, list, &tables)?;
-        Graph::of_parents(alloc, threads, parents)
+        let graph = Graph::of_parents(alloc, threads, parents)?;
+        Ok(graph)
     }
 }
 

@@ -1,6 +1,4 @@
 use Rattle.std.proofs.Common.{◌≡◌, ℕ, List, sym, subst}
-use Rattle.std.specs.Prelude.{Result, IfOk}
-use Rattle.std.proofs.lemmas.Result.{IfOk-weaker}
 use Rattle.priml_syntax.specs.declared.record.Record.{Record}
 use Rattle.cost_graph.specs.Graph.{CostGraph, IsAcyclic, IsWellFormed}
 use Rattle.cost_graph.specs.View.{graph_of}
@@ -13,8 +11,8 @@ use Rattle.cost_graph.proofs.Said.{lines_said}
 use Rattle.cost_graph.proofs.graph.Graph.of_records.Goals as goal
 
 -- what holds of the graph that is made holds of the answer
-of_made : {E : Type 0} (r : Result CostGraph E) (made : CostGraph) (P : CostGraph → Type 0) → P made → IfOk r (λ g. g ≡ made) → IfOk r P
-of_made r made P holds is = IfOk-weaker r (λ g. g ≡ made) P (λ g e. subst P (sym e) holds) is
+held : (g made : CostGraph) (P : CostGraph → Type 0) → P made → g ≡ made → P g
+held g made P holds is = subst P (sym is) holds
 
 pub all_parents-requires : goal.all_parents-requires
 all_parents-requires c =
@@ -36,14 +34,14 @@ returns-clause-graph c =
     let rs = c.args.records.now in
     let made = graph_of c.in_ok-threads.threads.items c.in_ok-parents.parents.items in
     let whole = made_of_list c.list-list.result.now rs c.in_ok-threads.threads.items c.in_ok-parents.parents.items c.list-list.ensures.value c.list-list.ensures.in_order c.requires c.in_ok-threads.ensures c.in_ok-parents.ensures.long c.in_ok-parents.ensures.right in
-    of_made c.of_parents.result made (IsGraphOf (parts_in rs)) whole c.of_parents.ensures
+    held c.in_ok-graph.graph made (IsGraphOf (parts_in rs)) whole c.in_ok-graph.ensures.made
 
 pub returns-clause-only : goal.returns-clause-only
 returns-clause-only c =
     let rs = c.args.records.now in
     let made = graph_of c.in_ok-threads.threads.items c.in_ok-parents.parents.items in
     let whole = made_of_list c.list-list.result.now rs c.in_ok-threads.threads.items c.in_ok-parents.parents.items c.list-list.ensures.value c.list-list.ensures.in_order c.requires c.in_ok-threads.ensures c.in_ok-parents.ensures.long c.in_ok-parents.ensures.right in
-    of_made c.of_parents.result made (λ (g : CostGraph). (other : CostGraph) → IsGraphOf (parts_in rs) other → g ≡ other) (λ other h. one_graph (parts_in rs) made other whole h) c.of_parents.ensures
+    held c.in_ok-graph.graph made (λ (g : CostGraph). (other : CostGraph) → IsGraphOf (parts_in rs) other → g ≡ other) (λ other h. one_graph (parts_in rs) made other whole h) c.in_ok-graph.ensures.made
 
 pub returns-clause-lines : goal.returns-clause-lines
 returns-clause-lines c =
@@ -51,7 +49,7 @@ returns-clause-lines c =
     let made = graph_of c.in_ok-threads.threads.items c.in_ok-parents.parents.items in
     let whole = made_of_list c.list-list.result.now rs c.in_ok-threads.threads.items c.in_ok-parents.parents.items c.list-list.ensures.value c.list-list.ensures.in_order c.requires c.in_ok-threads.ensures c.in_ok-parents.ensures.long c.in_ok-parents.ensures.right in
     let apart = apart_of_list c.list-list.result.now rs c.list-list.ensures.value c.list-list.ensures.in_order in
-    of_made c.of_parents.result made (HasLinesOf (parts_in rs)) (lines_said (parts_in rs) c.requires apart made whole) c.of_parents.ensures
+    held c.in_ok-graph.graph made (HasLinesOf (parts_in rs)) (lines_said (parts_in rs) c.requires apart made whole) c.in_ok-graph.ensures.made
 
 pub returns-clause-acyclic : goal.returns-clause-acyclic
 returns-clause-acyclic c =
@@ -59,7 +57,7 @@ returns-clause-acyclic c =
     let made = graph_of c.in_ok-threads.threads.items c.in_ok-parents.parents.items in
     let whole = made_of_list c.list-list.result.now rs c.in_ok-threads.threads.items c.in_ok-parents.parents.items c.list-list.ensures.value c.list-list.ensures.in_order c.requires c.in_ok-threads.ensures c.in_ok-parents.ensures.long c.in_ok-parents.ensures.right in
     let apart = apart_of_list c.list-list.result.now rs c.list-list.ensures.value c.list-list.ensures.in_order in
-    of_made c.of_parents.result made (λ (g : CostGraph). IsAcyclicGraph (parts_in rs) → IsAcyclic g) (carried_acyclic (parts_in rs) apart made whole) c.of_parents.ensures
+    held c.in_ok-graph.graph made (λ (g : CostGraph). IsAcyclicGraph (parts_in rs) → IsAcyclic g) (carried_acyclic (parts_in rs) apart made whole) c.in_ok-graph.ensures.made
 
 pub returns-clause-well_formed : goal.returns-clause-well_formed
 returns-clause-well_formed c =
@@ -67,4 +65,4 @@ returns-clause-well_formed c =
     let made = graph_of c.in_ok-threads.threads.items c.in_ok-parents.parents.items in
     let whole = made_of_list c.list-list.result.now rs c.in_ok-threads.threads.items c.in_ok-parents.parents.items c.list-list.ensures.value c.list-list.ensures.in_order c.requires c.in_ok-threads.ensures c.in_ok-parents.ensures.long c.in_ok-parents.ensures.right in
     let apart = apart_of_list c.list-list.result.now rs c.list-list.ensures.value c.list-list.ensures.in_order in
-    of_made c.of_parents.result made (λ (g : CostGraph). (pairs : List (ℕ × ℕ)) → IsWellFormedGraph pairs (parts_in rs) → IsWellFormed g pairs) (carried_well_formed (parts_in rs) apart made whole) c.of_parents.ensures
+    held c.in_ok-graph.graph made (λ (g : CostGraph). (pairs : List (ℕ × ℕ)) → IsWellFormedGraph pairs (parts_in rs) → IsWellFormed g pairs) (carried_well_formed (parts_in rs) apart made whole) c.in_ok-graph.ensures.made

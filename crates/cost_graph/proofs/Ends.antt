@@ -58,6 +58,10 @@ all_priorities (t ∷ ts) n h =
     let rest : All (λ (x : Thread). x.priority < n) ts = λ k d lt. h (suc k) d (omega (arith, lt)) in
     All-append (λ x. x < n) (replicate t.vertices t.priority) (flat_map (λ (x : Thread). replicate x.vertices x.priority) ts) (same_all t.vertices t.priority n here) (all_priorities ts n rest)
 
+-- where the threads' priorities are below a number, so is one that a thread has
+pub owned_below : (g : CostGraph) (n p : ℕ) → All (λ (x : Thread). x.priority < n) g.threads → (t : ℕ) × (t < thread_total g) × (p ≡ (thread_at g t).priority) → p < n
+owned_below g n p below (t, lt, is) = subst (λ q. q < n) (sym is) (below t no_thread lt)
+
 -- where the threads' priorities are below a number, so are the vertices'
 pub priority_below : (g : CostGraph) (n v : ℕ) → IsGraph g → All (λ (x : Thread). x.priority < n) g.threads → v < vertex_total g → vertex_priority g v < n
 priority_below g n v ok h lt =

@@ -142,7 +142,8 @@ impl Graph {
     /// The priority of vertex v, which is its thread's.
     pub fn priority_of_vertex(&self, v: u32) -> u32
         requires { v < vertex_total self.now }
-        ensures { result ≡ vertex_priority self.now v }
+        ensures is { result ≡ vertex_priority self.now v }
+        ensures owned { (t : ℕ) × (t < thread_total self.now) × (result ≡ (thread_at self.now t).priority) }
     {
         self.priority_of(self.thread_of(v))
     }

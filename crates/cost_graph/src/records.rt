@@ -61,15 +61,15 @@ fn threads_of(alloc: Global, list: &[Record]) -> Result<Vec<Thread>, AllocError>
 }
 
 // The thread of a record.
-fn one_thread(alloc: Global, record: &Record) -> Result<Thread, AllocError>
-    requires { length record.now.events.items < 2 ^ 32 }
-    ensures { IfOk result (λ t. t ≡ thread_of (part_of (read_record record.now))) }
+fn one_thread(alloc: Global, from: &Record) -> Result<Thread, AllocError>
+    requires { length from.now.events.items < 2 ^ 32 }
+    ensures { IfOk result (λ t. t ≡ thread_of (part_of (read_record from.now))) }
 {
-    let path = record.path.copy(alloc)?;
-    let events = record.events.as_slice();
+    let path = from.path.copy(alloc)?;
+    let events = from.events.as_slice();
     Ok(Thread {
         path,
-        priority: record.prio,
+        priority: from.prio,
         vertices: events.len() as u32,
     })
 }

@@ -104,7 +104,6 @@ fn is_unfit(
     requires first { AreMarked graph.now (λ v. IsProperAncestor graph.now v (first_vertex graph.now thread)) first.now.items }
     ensures { MatchBool result (IsUnfit graph.now order.now.pairs thread vertex) (IsFit graph.now order.now.pairs thread vertex) }
 {
-    let _count = graph.vertex_count();
     if !is_ancestor(graph, last, graph.last_of(thread), vertex) {
         return false;
     }

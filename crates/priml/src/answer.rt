@@ -61,12 +61,12 @@ fn on_sections(alloc: Global, input: &[u8]) -> Reply
 fn on_text(alloc: Global, text: &[u8]) -> Reply
     ensures { ReplyIs (OnText text.now) result }
 {
-    let mut tree = None;
-    let read = read_source_with_tree(alloc, text, &mut tree);
-    // the process ends soon: to free the tree node by node takes as long as to resolve it
-    forget(tree);
-    match read {
-        Ok(program) => on_program(alloc, program),
+    match read_source_with_tree(alloc, text) {
+        // the process ends soon: to free the tree node by node takes as long as to resolve it
+        Ok((program, tree)) => {
+            forget(tree);
+            on_program(alloc, program)
+        }
         Err(fault) => match source_refusal(fault) {
             Some(refusal) => Reply::Refused(refusal),
             None => Reply::OutOfMemory,

@@ -35,7 +35,6 @@ pub(crate) fn add_ready(
     ensures long { length ready.new.items ≡ length ready.old.items }
     ensures held { OnOk result ((p v : ℕ) → (holds ready.new.items p v ≡ true) ↔ ((holds ready.old.items p v ≡ true) ⊎ (Contains vertices.now.items v × (vertex_priority graph.now v ≡ p)))) }
 {
-    let _count = graph.vertex_count();
     for vertex in vertices {
         let p = graph.priority_of_vertex(*vertex) as usize;
         ready[p].insert(*vertex)?;
@@ -50,7 +49,6 @@ fn take_out(graph: &Graph, ready: &mut Vec<BTreeSet<u32>>, line: &Vec<u32>)
     ensures long { length ready.new.items ≡ length ready.old.items }
     ensures held { (p v : ℕ) → (holds ready.new.items p v ≡ true) ↔ ((holds ready.old.items p v ≡ true) × ((Contains line.now.items v × (vertex_priority graph.now v ≡ p)) → Prim.⊥)) }
 {
-    let _count = graph.vertex_count();
     for vertex in line {
         let p = graph.priority_of_vertex(*vertex) as usize;
         ready[p].remove(vertex);
@@ -109,7 +107,6 @@ fn overtaken(
     requires sets { length ready.now.items ≡ length order.now.names }
     ensures { IsOvertaken graph.now order.now.pairs ready.now.items line.now.items result }
 {
-    let _count = graph.vertex_count();
     for vertex in line {
         let low = graph.priority_of_vertex(*vertex);
         if let Some(other) = least_held(order, ready, Some(low)) {

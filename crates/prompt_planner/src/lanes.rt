@@ -31,6 +31,5 @@ fn lane_of(graph: &Graph, order: &Order, vertex: u32) -> u32
     ensures only { (k : ℕ) → HasLane order.now.pairs (length order.now.names) (vertex_priority graph.now vertex) k → k ≡ result }
     ensures above { (b k : ℕ) → HasLane order.now.pairs (length order.now.names) b k → IsBelow order.now.pairs (vertex_priority graph.now vertex) b → k < result }
 {
-    let _count = graph.vertex_count();
     order.lane(graph.priority_of_vertex(vertex))
 }

@@ -5,7 +5,6 @@ use Rattle.std.specs.Result.{IsErrAnd}
 use Rattle.std.proofs.lemmas.List.{take-append-drop, take-append-le, length-take-le, take-map}
 use Rattle.std.proofs.lemmas.Option.{slice_get_within}
 use Rattle.std.proofs.Math.Seq.{take-append_seam, take-length}
-use Rattle.priml_syntax.specs.declared.program.Program.{Program}
 use Rattle.priml_syntax.specs.Tree.{Tree}
 use Rattle.source_tokens.specs.declared.token.Token.{Token}
 use Rattle.source_tokens.specs.declared.token.Stop.{Stop}
@@ -151,13 +150,14 @@ refusal_fault text (TooDeep at) some h = h.0
 refusal_fault text (TooMany at what) some h = h.0
 refusal_fault text OutOfMemory some h = absurd (some refl)
 
-pub refused_once : (text : List ℕ) (e : SourceFault) → Refuses text e → e ≢ OutOfMemory → (f : SourceFault) → IsFaultOf text f → f ≡ e
+refused_once : (text : List ℕ) (e : SourceFault) → Refuses text e → e ≢ OutOfMemory → (f : SourceFault) → IsFaultOf text f → f ≡ e
 refused_once text e h some f is = one_fault text f e is (refusal_fault text e some h)
 
-pub once_if : (text : List ℕ) (result : Result Program SourceFault) → IfErr result (Refuses text) → IfErr result (λ e. e ≢ OutOfMemory → (f : SourceFault) → IsFaultOf text f → f ≡ e)
-once_if text (Ok p) h = tt
+pub once_if : {A : Type 0} (text : List ℕ) (result : Result A SourceFault) → IfErr result (Refuses text) → IfErr result (λ e. e ≢ OutOfMemory → (f : SourceFault) → IsFaultOf text f → f ≡ e)
+once_if text (Ok x) h = tt
 once_if text (Err e) h = refused_once text e h
 
-pub once_handed : (text : List ℕ) (e : SourceFault) (result : Result Program SourceFault) → IsErrAnd result (λ y. y ≡ e) → Refuses text e → IfErr result (λ e. e ≢ OutOfMemory → (f : SourceFault) → IsFaultOf text f → f ≡ e)
-once_handed text e (Ok p) is h = absurd is
-once_handed text e (Err y) is h = refused_once text y (subst (Refuses text) (sym is) h)
+-- and the one that a `?` hands on is refused as it was
+pub handed : {A : Type 0} (text : List ℕ) (e : SourceFault) (result : Result A SourceFault) → IsErrAnd result (λ y. y ≡ e) → Refuses text e → IfErr result (Refuses text)
+handed text e (Ok x) is h = absurd is
+handed text e (Err y) is h = subst (Refuses text) (sym is) h

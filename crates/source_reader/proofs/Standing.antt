@@ -1,11 +1,8 @@
 -- What a text stands for, by its tree, and what its fault is where it stands for no program.
-use Rattle.std.proofs.Common.{◌≡◌, ◌≢◌, ℕ, ◌≤◌, ◌<◌, List, [], ◌∷◌, ◌⊎◌, inl, inr, length, slice_get, get_or, Option, Some, None, append-nil, refl, sym, subst, ◌∙◌, arith, Result, Ok, Err}
-use Rattle.std.specs.Prelude.{IfOk, IfErr}
+use Rattle.std.proofs.Common.{◌≡◌, ◌≢◌, ℕ, ◌≤◌, ◌<◌, List, [], ◌∷◌, ◌⊎◌, inl, inr, length, slice_get, get_or, Option, Some, None, append-nil, refl, sym, subst, ◌∙◌, arith}
 use Rattle.std.proofs.lemmas.List.{take_all}
 use Rattle.std.proofs.lemmas.Option.{slice_get_cases}
-use Rattle.priml_syntax.specs.declared.program.Program.{Program}
 use Rattle.priml_syntax.specs.Tree.{Tree}
-use Rattle.priml_syntax.specs.Read.{read_program}
 use Rattle.priml_syntax.specs.Scoped.{IsScoped}
 use Rattle.source_tokens.specs.declared.token.Token.{Token}
 use Rattle.source_tokens.specs.declared.token.Stop.{Stop}
@@ -108,23 +105,15 @@ only_tree text ts ns raw lexed only ms q w =
 as_written : (text : List ℕ) (p : Tree) (s : Stands text p) → IsWrittenAs text s.names s.raw
 as_written text p s = record { tokens = s.tokens; lexed = s.lexed; derived = s.derived }
 
--- the program of a tree without faults
-pub stands_if : (text : List ℕ) (ns : List (List ℕ)) (raw : RawTree) (result : Result Program SourceFault) → IsWrittenAs text ns raw
-    → IfOk result (λ p. faults raw ≡ []) → IfOk result (λ p. resolved ns raw ≡ read_program p) → IfOk result (λ p. Stands text (read_program p))
-stands_if text ns raw (Ok p) w clean meant = record { tokens = w.tokens; names = ns; raw = raw; lexed = w.lexed; derived = w.derived; clean = clean; meant = meant }
-stands_if text ns raw (Err e) w clean meant = tt
-
-pub scoped_if : (ns : List (List ℕ)) (raw : RawTree) (result : Result Program SourceFault) → IfOk result (λ p. faults raw ≡ []) → IfOk result (λ p. resolved ns raw ≡ read_program p) → IfOk result (λ p. IsScoped (read_program p))
-scoped_if ns raw (Ok p) clean meant = subst IsScoped meant (resolved_scoped ns raw clean)
-scoped_if ns raw (Err e) clean meant = tt
+-- the program of a tree without faults is in scope
+pub scoped_as : (ns : List (List ℕ)) (raw : RawTree) (p : Tree) → faults raw ≡ [] → resolved ns raw ≡ p → IsScoped p
+scoped_as ns raw p clean meant = subst IsScoped meant (resolved_scoped ns raw clean)
 
 same_meaning : (ns ms : List (List ℕ)) (raw q : RawTree) → ms ≡ ns → q ≡ raw → resolved ms q ≡ resolved ns raw
 same_meaning ns ms raw q a b = rw (a, b) refl
 
-pub only_if : (text : List ℕ) (ns : List (List ℕ)) (raw : RawTree) (result : Result Program SourceFault) → IsOnly text ns raw
-    → IfOk result (λ p. resolved ns raw ≡ read_program p) → IfOk result (λ p. (q : Tree) → Stands text q → q ≡ read_program p)
-only_if text ns raw (Ok p) only meant = λ q s. let same = only s.names s.raw (as_written text q s) in sym s.meant ∙ same_meaning ns s.names raw s.raw same.0 same.1 ∙ meant
-only_if text ns raw (Err e) only meant = tt
+pub only_as : (text : List ℕ) (ns : List (List ℕ)) (raw : RawTree) (p : Tree) → IsOnly text ns raw → resolved ns raw ≡ p → (q : Tree) → Stands text q → q ≡ p
+only_as text ns raw p only meant = λ q s. let same = only s.names s.raw (as_written text q s) in sym s.meant ∙ same_meaning ns s.names raw s.raw same.0 same.1 ∙ meant
 
 -- the first fault of names and limits is the fault of the text
 names_fault : (text : List ℕ) (ns : List (List ℕ)) (raw : RawTree) (e : SourceFault) → IsWrittenAs text ns raw → IsOnly text ns raw → Ascends (faults raw) → IsFirstOf (faults raw) e → Refuses text e
@@ -134,14 +123,13 @@ names_fault text ns raw e w only up first =
     let none : (p : Tree) → Stands text p → ⊥ = λ p s. let same = only s.names s.raw (as_written text p s) in let c : faults raw ≡ [] = subst (λ q. faults q ≡ []) same.1 s.clean in let d : ◌≡◌ {A = List Fault} [] (f ∷ first.rest) = sym c ∙ first.among in absurd (cc) in
     refusal text e (subst (IsFaultOf text) (sym first.is) (of_names f w.lexed w.derived is)) none
 
-pub refused_if : (text : List ℕ) (ns : List (List ℕ)) (raw : RawTree) (result : Result Program SourceFault) → IsWrittenAs text ns raw → IsOnly text ns raw → Ascends (faults raw)
-    → IfErr result (λ e. e ≢ OutOfMemory → IsFirstOf (faults raw) e) → IfErr result (Refuses text)
-refused_if text ns raw (Ok p) w only up h = tt
-refused_if text ns raw (Err (BadByte at)) w only up h = names_fault text ns raw (BadByte at) w only up (h (λ q. absurd (cc)))
-refused_if text ns raw (Err (BadNumber at)) w only up h = names_fault text ns raw (BadNumber at) w only up (h (λ q. absurd (cc)))
-refused_if text ns raw (Err (Unexpected at)) w only up h = names_fault text ns raw (Unexpected at) w only up (h (λ q. absurd (cc)))
-refused_if text ns raw (Err (UnknownName at)) w only up h = names_fault text ns raw (UnknownName at) w only up (h (λ q. absurd (cc)))
-refused_if text ns raw (Err (TwiceNamed at)) w only up h = names_fault text ns raw (TwiceNamed at) w only up (h (λ q. absurd (cc)))
-refused_if text ns raw (Err (TooDeep at)) w only up h = names_fault text ns raw (TooDeep at) w only up (h (λ q. absurd (cc)))
-refused_if text ns raw (Err (TooMany at what)) w only up h = names_fault text ns raw (TooMany at what) w only up (h (λ q. absurd (cc)))
-refused_if text ns raw (Err OutOfMemory) w only up h = tt
+pub refuses : (text : List ℕ) (ns : List (List ℕ)) (raw : RawTree) (e : SourceFault) → IsWrittenAs text ns raw → IsOnly text ns raw → Ascends (faults raw)
+    → (e ≢ OutOfMemory → IsFirstOf (faults raw) e) → Refuses text e
+refuses text ns raw (BadByte at) w only up h = names_fault text ns raw (BadByte at) w only up (h (λ q. absurd (cc)))
+refuses text ns raw (BadNumber at) w only up h = names_fault text ns raw (BadNumber at) w only up (h (λ q. absurd (cc)))
+refuses text ns raw (Unexpected at) w only up h = names_fault text ns raw (Unexpected at) w only up (h (λ q. absurd (cc)))
+refuses text ns raw (UnknownName at) w only up h = names_fault text ns raw (UnknownName at) w only up (h (λ q. absurd (cc)))
+refuses text ns raw (TwiceNamed at) w only up h = names_fault text ns raw (TwiceNamed at) w only up (h (λ q. absurd (cc)))
+refuses text ns raw (TooDeep at) w only up h = names_fault text ns raw (TooDeep at) w only up (h (λ q. absurd (cc)))
+refuses text ns raw (TooMany at what) w only up h = names_fault text ns raw (TooMany at what) w only up (h (λ q. absurd (cc)))
+refuses text ns raw OutOfMemory w only up h = tt

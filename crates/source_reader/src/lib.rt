@@ -13,4 +13,5 @@ mod resolve;
 mod term;
 
 pub use faults::{Fault, What};
+pub use inputs_text::{InputFault, read_inputs};
 pub use reader::{SourceFault, SourceTree, read_source, read_source_with_tree};

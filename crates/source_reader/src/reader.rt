@@ -1,6 +1,6 @@
 //! Reads the text of a program.
 
-ghost use Rattle.std.specs.Prelude.{◌≡◌, ◌≢◌, [], ℕ, List, None, IsAscii, IfOk, IfErr, MatchOption, slice_get};
+ghost use Rattle.std.specs.Prelude.{◌≡◌, ◌≢◌, [], ℕ, List, None, IsAscii, IfOk, IfErr, slice_get};
 ghost use Rattle.std.specs.List.{All};
 ghost use Rattle.indexmap.specs.IndexSet.{index_set_len};
 ghost use Rattle.priml_syntax.specs.Tree.{Tree};
@@ -69,28 +69,26 @@ pub fn read_source(alloc: Global, text: &[u8]) -> Result<Program, SourceFault>
     ensures refused { IfErr result (Refuses text.now) }
     ensures one { IfErr result (λ e. e ≢ SourceFault.OutOfMemory → (f : SourceFault) → IsFaultOf text.now f → f ≡ e) }
 {
-    let mut tree = None;
-    read_source_with_tree(alloc, text, &mut tree)
+    let (program, _tree) = read_source_with_tree(alloc, text)?;
+    Ok(program)
 }
 
-/// The same, but the tree that was read on the way is left to the caller: to free it node by node takes as long as to resolve it, and a
-/// process that ends soon need not.
+/// The same, with the tree that was read on the way: to free it node by node takes as long as to resolve it, and a process that
+/// ends soon need not.
 pub fn read_source_with_tree(
     alloc: Global,
     text: &[u8],
-    tree: &mut Option<SourceTree>,
-) -> Result<Program, SourceFault>
-    ensures program { IfOk result (λ p. Stands text.now (read_program p)) }
-    ensures scoped { IfOk result (λ p. IsScoped (read_program p)) }
-    ensures only { IfOk result (λ p. (q : Tree) → Stands text.now q → q ≡ read_program p) }
+) -> Result<(Program, SourceTree), SourceFault>
+    ensures program { IfOk result (λ r. Stands text.now (read_program r.0)) }
+    ensures scoped { IfOk result (λ r. IsScoped (read_program r.0)) }
+    ensures only { IfOk result (λ r. (q : Tree) → Stands text.now q → q ≡ read_program r.0) }
+    ensures tree { IfOk result (λ r. IsWrittenAs text.now (name_bytes r.1.names) (read_raw r.1.raw)) }
     ensures refused { IfErr result (Refuses text.now) }
     ensures one { IfErr result (λ e. e ≢ SourceFault.OutOfMemory → (f : SourceFault) → IsFaultOf text.now f → f ≡ e) }
-    ensures left { IfOk result (λ p. MatchOption tree.new ⊥ (λ w. IsWrittenAs text.now (name_bytes w.names) (read_raw w.raw))) }
 {
-    let written = written(alloc, text)?;
-    let read = program(alloc, &written.names, &written.raw);
-    *tree = Some(written);
-    read
+    let tree = written(alloc, text)?;
+    let program = program(alloc, &tree.names, &tree.raw)?;
+    Ok((program, tree))
 }
 
 /// A text as a tree over its distinct names, which are not resolved.

@@ -11,15 +11,15 @@ ghost use Rattle.cost_graph.specs.Graph.{IsAcyclic};
 use cost_graph::{Graph, are_finished, has_cycle};
 use priml_syntax::{Event, Outcome, Path, Record, Records, Value};
 use priority_order::Order;
-use std::alloc::Global;
+use std::alloc::{AllocError, Global};
 use std::cmp::Ordering;
 use std::test::Fail;
 
-/// An event of a row; a Join has the number of a child of the root.
+/// Events of a row: so many Plain ones; a Join of the child of the root with this number; one of the others.
 #[derive(Clone, Copy)]
 pub(crate) enum Step {
     Start,
-    Plain,
+    Plain(u32),
     Spawn,
     Join(u32),
     End,
@@ -113,19 +113,27 @@ fn record_of(alloc: Global, row: &Row) -> Result<Record, Fail> {
     let (child, prio, steps) = *row;
     let mut events = Vec::new(alloc);
     for step in steps {
-        events.push(event_of(alloc, *step)?)?;
+        push_events(alloc, &mut events, *step)?;
     }
     Ok(ended(path_of(alloc, child)?, prio, events))
 }
 
-fn event_of(alloc: Global, step: Step) -> Result<Event, Fail> {
+fn push_events(alloc: Global, events: &mut Vec<Event>, step: Step) -> Result<(), Fail> {
     match step {
-        Step::Start => Ok(Event::Start),
-        Step::Plain => Ok(Event::Plain),
-        Step::Spawn => Ok(Event::Spawn),
-        Step::Join(k) => Ok(Event::Join(path_of(alloc, Some(k))?)),
-        Step::End => Ok(Event::End),
+        Step::Start => events.push(Event::Start)?,
+        Step::Plain(count) => push_plain(events, count)?,
+        Step::Spawn => events.push(Event::Spawn)?,
+        Step::Join(k) => events.push(Event::Join(path_of(alloc, Some(k))?))?,
+        Step::End => events.push(Event::End)?,
     }
+    Ok(())
+}
+
+fn push_plain(events: &mut Vec<Event>, count: u32) -> Result<(), AllocError> {
+    for _ in 0..count {
+        events.push(Event::Plain)?;
+    }
+    Ok(())
 }
 
 /// The order of these names and pairs, whose numbers are below the count of names.

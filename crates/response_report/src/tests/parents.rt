@@ -5,11 +5,14 @@ ghost use Rattle.prompt_checker.specs.Read.{lists};
 
 use crate::row::Row;
 use crate::tests::build::{Scene, order_of, scene_over};
-use crate::tests::schedules::{flaw, plan_of, plan_report, rows_of, verdict_of};
+use crate::tests::schedules::{
+    expect_plan, expect_report, flaw, plan_of, rows_of, sizes, verdict_of,
+};
 use cost_graph::{Graph, Thread, are_finished, topological};
 use priml_syntax::{Path, Records};
-use prompt_checker::{FlawKind, ScheduleFault, Verdict, plan_text, read_schedule};
+use prompt_checker::{FlawKind, ScheduleFault, Verdict, read_schedule};
 use std::alloc::{AllocError, Global};
+use std::process::Abort;
 use std::test::Fail;
 
 // A root of two vertices and so many children of one. The root's first vertex has an edge to each other vertex, and
@@ -90,10 +93,6 @@ fn planned(alloc: Global, scene: &Scene, cores: u32) -> Result<(usize, Vec<Row>)
     Ok((plan.steps.len(), rows))
 }
 
-fn sizes(row: &Row) -> (u64, u64, u64, u64) {
-    (row.response, row.work, row.span, row.bound)
-}
-
 // The root's second vertex, 1, waits for its first, 0, and for 999 children, 2 to 1,000.
 #[test]
 fn edges_of_a_vertex_of_1000_parents(rt: HostRuntime) -> Result<(), Fail> {
@@ -146,20 +145,28 @@ fn rows_of_a_vertex_of_1000_parents(rt: HostRuntime) -> Result<(), Fail> {
 #[test]
 fn a_thread_alone(rt: HostRuntime) -> Result<(), Fail> {
     let scene = gathered(rt.alloc(), 0)?;
-    let text = scene.graph.graph_text(rt.alloc(), &scene.order)?;
-    assert_eq!(rt; text.as_slice(), b"thread 0 p 2\n".as_slice());
-    let along = topological(rt.alloc(), &scene.graph)?;
-    assert_eq!(rt; along.as_slice(), [0, 1].as_slice());
-    let lines = b"0:0\n0:1\n".as_slice();
-    let plan = plan_of(rt.alloc(), &scene, 3)?;
-    let text = plan_text(rt.alloc(), &scene.graph, &plan)?;
-    assert_eq!(rt; text.as_slice(), lines);
-    let schedule = read_schedule(rt.alloc(), lines, &scene.graph)?;
+    expect_graph(&rt, rt.alloc(), &scene, "thread 0 p 2\n", &[0, 1])?;
+    let lines = "0:0\n0:1\n";
+    expect_plan(&rt, rt.alloc(), &scene, 3, lines)?;
+    let schedule = read_schedule(rt.alloc(), lines.as_bytes(), &scene.graph)?;
     let verdict = verdict_of(rt.alloc(), &scene, 3, &schedule)?;
     assert_eq!(rt; verdict, Verdict::Prompt);
-    let report = plan_report(rt.alloc(), &scene, 3)?;
-    let want = b"cores 3\nsteps 2\nresponse 0 p time 2 work 2 span 2 bound 2\n".as_slice();
-    assert_eq!(rt; report.as_slice(), want);
+    let want = "cores 3\nsteps 2\nresponse 0 p time 2 work 2 span 2 bound 2\n";
+    expect_report(&rt, rt.alloc(), &scene, 3, want)
+}
+
+// The graph has this text, and its vertices this order.
+fn expect_graph(
+    rt: &impl Abort,
+    alloc: Global,
+    scene: &Scene,
+    want: &str,
+    order: &[u32],
+) -> Result<(), Fail> {
+    let text = scene.graph.graph_text(alloc, &scene.order)?;
+    assert_eq!(rt; text.as_slice(), want.as_bytes());
+    let along = topological(alloc, &scene.graph)?;
+    assert_eq!(rt; along.as_slice(), order);
     Ok(())
 }
 
@@ -175,17 +182,16 @@ fn no_thread(rt: HostRuntime) -> Result<(), Fail> {
     let graph = &scene.graph;
     assert_eq!(rt; (graph.thread_count(), graph.vertex_count()), (0, 0));
     assert_eq!(rt; graph.find(&Path::root(rt.alloc())?, 0), None);
-    assert!(rt; topological(rt.alloc(), graph)?.is_empty());
-    assert!(rt; graph.graph_text(rt.alloc(), &scene.order)?.is_empty());
-    let plan = plan_of(rt.alloc(), &scene, 4)?;
-    assert!(rt; plan.steps.is_empty());
-    assert!(rt; plan_text(rt.alloc(), graph, &plan)?.is_empty());
-    let (steps, rows) = planned(rt.alloc(), &scene, 4)?;
-    assert_eq!(rt; (steps, rows.len()), (0, 0));
-    let report = plan_report(rt.alloc(), &scene, 4)?;
-    assert_eq!(rt; report.as_slice(), b"cores 4\nsteps 0\n".as_slice());
-    // no records are those of a finished job, whose root would be there
-    assert!(rt; !are_finished(rt.alloc(), &Records::of(Vec::new(rt.alloc())))?);
+    expect_graph(&rt, rt.alloc(), &scene, "", &[])?;
+    expect_plan(&rt, rt.alloc(), &scene, 4, "")?;
+    expect_report(&rt, rt.alloc(), &scene, 4, "cores 4\nsteps 0\n")
+}
+
+// No records are those of a finished job, whose root would be there.
+#[test]
+fn no_records(rt: HostRuntime) -> Result<(), Fail> {
+    let none = Records::of(Vec::new(rt.alloc()));
+    assert!(rt; !are_finished(rt.alloc(), &none)?);
     Ok(())
 }
 

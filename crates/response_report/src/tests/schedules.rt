@@ -16,6 +16,7 @@ use prompt_checker::{
 };
 use prompt_planner::plan;
 use std::alloc::{AllocError, Global};
+use std::process::Abort;
 use std::test::Fail;
 
 // A root that goes on beside its child, in these priorities.
@@ -71,49 +72,33 @@ fn three(alloc: Global) -> Result<Scene, Fail> {
     make_scene(alloc, &list, &["p"], &[])
 }
 
-// The events of a thread that makes so many plain steps between its first and its last.
-fn busy(alloc: Global, plain: usize) -> Result<Vec<Step>, AllocError> {
-    let mut steps = Vec::new(alloc);
-    steps.push(Step::Start)?;
-    for _ in 0..plain {
-        steps.push(Step::Plain)?;
-    }
-    steps.push(Step::End)?;
-    Ok(steps)
-}
-
 // A root of ui that spawns four sums of bg and a thread of log, and goes on; that of log joins the sums.
 fn dashboard(alloc: Global) -> Result<Scene, Fail> {
-    let mut root = Vec::new(alloc);
-    root.push(Step::Start)?;
-    for _ in 0..5 {
-        root.push(Step::Spawn)?;
-    }
-    for _ in 0..14 {
-        root.push(Step::Plain)?;
-    }
-    root.push(Step::End)?;
-    let sums = (
-        busy(alloc, 33)?,
-        busy(alloc, 63)?,
-        busy(alloc, 93)?,
-        busy(alloc, 123)?,
-    );
+    let root = [
+        Step::Start,
+        Step::Spawn,
+        Step::Spawn,
+        Step::Spawn,
+        Step::Spawn,
+        Step::Spawn,
+        Step::Plain(14),
+        Step::End,
+    ];
     let log = [
         Step::Start,
         Step::Join(0),
         Step::Join(1),
         Step::Join(2),
         Step::Join(3),
-        Step::Plain,
+        Step::Plain(1),
         Step::End,
     ];
     let list: [Row; 6] = [
-        (None, 2, root.as_slice()),
-        (Some(0), 1, sums.0.as_slice()),
-        (Some(1), 1, sums.1.as_slice()),
-        (Some(2), 1, sums.2.as_slice()),
-        (Some(3), 1, sums.3.as_slice()),
+        (None, 2, &root),
+        (Some(0), 1, &[Step::Start, Step::Plain(33), Step::End]),
+        (Some(1), 1, &[Step::Start, Step::Plain(63), Step::End]),
+        (Some(2), 1, &[Step::Start, Step::Plain(93), Step::End]),
+        (Some(3), 1, &[Step::Start, Step::Plain(123), Step::End]),
         (Some(4), 0, &log),
     ];
     make_scene(alloc, &list, &["log", "bg", "ui"], &[(0, 1), (1, 2)])
@@ -197,7 +182,7 @@ pub(crate) fn verdict_of(
 }
 
 // The report of the plan, on 1 to 1,024 cores.
-pub(crate) fn plan_report(alloc: Global, scene: &Scene, cores: u32) -> Result<Vec<u8>, Fail> {
+fn plan_report(alloc: Global, scene: &Scene, cores: u32) -> Result<Vec<u8>, Fail> {
     if cores < 1 {
         return Err(Fail::new("no core"));
     }
@@ -208,6 +193,11 @@ pub(crate) fn plan_report(alloc: Global, scene: &Scene, cores: u32) -> Result<Ve
     report(alloc, scene, cores, &plan)
 }
 
+// The response, work, span and bound of a row.
+pub(crate) fn sizes(row: &Line) -> (u64, u64, u64, u64) {
+    (row.response, row.work, row.span, row.bound)
+}
+
 pub(crate) fn flaw(step: u64, kind: FlawKind) -> Verdict {
     Verdict::Flaw(Flaw { step, kind })
 }
@@ -215,10 +205,7 @@ pub(crate) fn flaw(step: u64, kind: FlawKind) -> Verdict {
 #[test]
 fn plan_of_an_urgent_root(rt: HostRuntime) -> Result<(), Fail> {
     let scene = urgent_root(rt.alloc())?;
-    let plan = plan_of(rt.alloc(), &scene, 2)?;
-    let text = plan_text(rt.alloc(), &scene.graph, &plan)?;
-    assert_eq!(rt; text.as_slice(), b"0:0\n0:1\n0:2 0.0:0\n0.0:1\n".as_slice());
-    Ok(())
+    expect_plan(&rt, rt.alloc(), &scene, 2, "0:0\n0:1\n0:2 0.0:0\n0.0:1\n")
 }
 
 // The child's vertices are 3 to 5: its second waits for its last, so that a cycle leads to both.
@@ -292,50 +279,85 @@ fn faults_of_schedule_texts(rt: HostRuntime) -> Result<(), Fail> {
     Ok(())
 }
 
-#[test]
-fn reports_of_plans(rt: HostRuntime) -> Result<(), Fail> {
-    let cases = [
-        (
-            urgent_root(rt.alloc())?,
-            1,
-            "cores 1\nsteps 5\nresponse 0 ui time 3 work 3 span 3 bound 3\nresponse 0.0 bg time 3 work 3 span 2 bound 3\n",
-        ),
-        (
-            urgent_root(rt.alloc())?,
-            2,
-            "cores 2\nsteps 4\nresponse 0 ui time 3 work 3 span 3 bound 3\nresponse 0.0 bg time 2 work 3 span 2 bound 2\n",
-        ),
-        (
-            urgent_child(rt.alloc())?,
-            2,
-            "cores 2\nsteps 6\nresponse 0 bg time 6 work 6 span 6 bound 6\nresponse 0.0 ui time 2 work 2 span 2 bound 2\n",
-        ),
-        (
-            unrelated(rt.alloc())?,
-            1,
-            "cores 1\nsteps 5\nresponse 0 a time 3 work 5 span 3 bound 5\nresponse 0.0 b time 3 work 3 span 2 bound 3\n",
-        ),
-        (
-            three(rt.alloc())?,
-            1,
-            "cores 1\nsteps 10\nresponse 0 p time 10 work 10 span 8 bound 10\nresponse 0.0 p time 3 work 4 span 2 bound 4\nresponse 0.1 p time 5 work 5 span 4 bound 5\n",
-        ),
-    ];
-    for (scene, cores, want) in cases {
-        let text = plan_report(rt.alloc(), &scene, cores)?;
-        assert_eq!(rt; text.as_slice(), want.as_bytes(), "{want}");
-    }
+// The plan of the scene has this text.
+pub(crate) fn expect_plan(
+    rt: &impl Abort,
+    alloc: Global,
+    scene: &Scene,
+    cores: u32,
+    want: &str,
+) -> Result<(), Fail>
+    requires { 1 ≤ cores }
+{
+    let plan = plan_of(alloc, scene, cores)?;
+    let text = plan_text(alloc, &scene.graph, &plan)?;
+    assert_eq!(rt; text.as_slice(), want.as_bytes());
+    Ok(())
+}
+
+// The report of the plan has this text.
+pub(crate) fn expect_report(
+    rt: &impl Abort,
+    alloc: Global,
+    scene: &Scene,
+    cores: u32,
+    want: &str,
+) -> Result<(), Fail> {
+    let text = plan_report(alloc, scene, cores)?;
+    assert_eq!(rt; text.as_slice(), want.as_bytes());
     Ok(())
 }
 
 #[test]
+fn reports_of_plans(rt: HostRuntime) -> Result<(), Fail> {
+    let alloc = rt.alloc();
+    expect_report(
+        &rt,
+        alloc,
+        &urgent_root(alloc)?,
+        1,
+        "cores 1\nsteps 5\nresponse 0 ui time 3 work 3 span 3 bound 3\nresponse 0.0 bg time 3 work 3 span 2 bound 3\n",
+    )?;
+    expect_report(
+        &rt,
+        alloc,
+        &urgent_root(alloc)?,
+        2,
+        "cores 2\nsteps 4\nresponse 0 ui time 3 work 3 span 3 bound 3\nresponse 0.0 bg time 2 work 3 span 2 bound 2\n",
+    )?;
+    expect_report(
+        &rt,
+        alloc,
+        &urgent_child(alloc)?,
+        2,
+        "cores 2\nsteps 6\nresponse 0 bg time 6 work 6 span 6 bound 6\nresponse 0.0 ui time 2 work 2 span 2 bound 2\n",
+    )?;
+    expect_report(
+        &rt,
+        alloc,
+        &unrelated(alloc)?,
+        1,
+        "cores 1\nsteps 5\nresponse 0 a time 3 work 5 span 3 bound 5\nresponse 0.0 b time 3 work 3 span 2 bound 3\n",
+    )?;
+    expect_report(
+        &rt,
+        alloc,
+        &three(alloc)?,
+        1,
+        "cores 1\nsteps 10\nresponse 0 p time 10 work 10 span 8 bound 10\nresponse 0.0 p time 3 work 4 span 2 bound 4\nresponse 0.1 p time 5 work 5 span 4 bound 5\n",
+    )
+}
+
+#[test]
 fn report_of_a_dashboard(rt: HostRuntime) -> Result<(), Fail> {
-    let scene = dashboard(rt.alloc())?;
-    let text = plan_report(rt.alloc(), &scene, 2)?;
-    let want =
-        "cores 2\nsteps 214\nresponse 0 ui time 21 work 21 span 21 bound 21\nresponse 0.0 bg time 35 work 339 span 35 bound 187\nresponse 0.1 bg time 83 work 338 span 65 bound 201\nresponse 0.2 bg time 128 work 337 span 95 bound 216\nresponse 0.3 bg time 206 work 336 span 125 bound 230\nresponse 0.4 log time 208 work 342 span 128 bound 235\n";
-    assert_eq!(rt; text.as_slice(), want.as_bytes());
-    Ok(())
+    let alloc = rt.alloc();
+    expect_report(
+        &rt,
+        alloc,
+        &dashboard(alloc)?,
+        2,
+        "cores 2\nsteps 214\nresponse 0 ui time 21 work 21 span 21 bound 21\nresponse 0.0 bg time 35 work 339 span 35 bound 187\nresponse 0.1 bg time 83 work 338 span 65 bound 201\nresponse 0.2 bg time 128 work 337 span 95 bound 216\nresponse 0.3 bg time 206 work 336 span 125 bound 230\nresponse 0.4 log time 208 work 342 span 128 bound 235\n",
+    )
 }
 
 #[test]

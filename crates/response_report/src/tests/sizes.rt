@@ -5,7 +5,7 @@ ghost use Rattle.cost_graph.specs.Graph.{IsWellFormed};
 use crate::report::rows;
 use crate::row::{ReportStop, Row};
 use crate::tests::build::{Scene, ended, path_of, scene_of};
-use crate::tests::schedules::plan_of;
+use crate::tests::schedules::{plan_of, sizes};
 use priml_syntax::{Event, Record};
 use prompt_checker::{Verdict, judge};
 use prompt_planner::plan;
@@ -109,39 +109,51 @@ fn reports_of_large_graphs(rt: HostRuntime) -> Result<(), Fail> {
     ];
     for (shape, children, events, threads, vertices, span) in cases {
         let scene = large(rt.alloc(), shape, children, events)?;
-        let rows = rows_of(rt.alloc(), &scene)?;
-        assert_eq!(rt; rows.len(), threads);
-        let Some(root) = rows.first() else {
-            return Err(Fail::new("no row"));
-        };
-        assert_eq!(rt; (root.response, root.work), (vertices, vertices));
-        assert_eq!(rt; (root.span, root.bound), (span, vertices));
+        let (count, root) = count_and_root(rt.alloc(), &scene)?;
+        assert_eq!(rt; count, threads);
+        assert_eq!(rt; root, (vertices, vertices, span, vertices));
     }
     Ok(())
 }
 
+// How many rows there are, and the numbers of the first.
+fn count_and_root(alloc: Global, scene: &Scene) -> Result<(usize, (u64, u64, u64, u64)), Fail> {
+    let rows = rows_of(alloc, scene)?;
+    match rows.first() {
+        Some(root) => Ok((rows.len(), sizes(root))),
+        None => Err(Fail::new("no row")),
+    }
+}
+
 // A child that the root joins 1,000 times, so that its last vertex has 1,000 children.
-#[test]
-fn joined_often(rt: HostRuntime) -> Result<(), Fail> {
-    let mut events = Vec::new(rt.alloc());
+fn often_joined(alloc: Global) -> Result<Scene, Fail> {
+    let mut list = Vec::new(alloc);
+    list.push(ended(path_of(alloc, None)?, 0, joins(alloc, 1_000)?))?;
+    list.push(child_of(alloc, Shape::Fan, 0, 2)?)?;
+    scene_of(alloc, list, &["p"], &[])
+}
+
+// The events of a root that spawns a child and joins it so often.
+fn joins(alloc: Global, count: u32) -> Result<Vec<Event>, Fail> {
+    let mut events = Vec::new(alloc);
     events.push(Event::Start)?;
     events.push(Event::Spawn)?;
-    for _ in 0..1_000 {
-        events.push(Event::Join(path_of(rt.alloc(), Some(0))?))?;
+    for _ in 0..count {
+        events.push(Event::Join(path_of(alloc, Some(0))?))?;
     }
     events.push(Event::End)?;
-    let mut list = Vec::new(rt.alloc());
-    list.push(ended(path_of(rt.alloc(), None)?, 0, events))?;
-    list.push(child_of(rt.alloc(), Shape::Fan, 0, 2)?)?;
-    let scene = scene_of(rt.alloc(), list, &["p"], &[])?;
-    let mut sizes = Vec::new(rt.alloc());
-    for row in rows_of(rt.alloc(), &scene)? {
-        sizes.push((row.response, row.work, row.span, row.bound))?;
+    Ok(events)
+}
+
+#[test]
+fn joined_often(rt: HostRuntime) -> Result<(), Fail> {
+    let scene = often_joined(rt.alloc())?;
+    let rows = rows_of(rt.alloc(), &scene)?;
+    let wants = [(1_005, 1_005, 1_005, 1_005), (2, 2, 2, 2)];
+    assert_eq!(rt; rows.len(), wants.len());
+    for (row, want) in rows.iter().zip(wants) {
+        assert_eq!(rt; sizes(row), want);
     }
-    assert_eq!(rt;
-        sizes.as_slice(),
-        [(1_005, 1_005, 1_005, 1_005), (2, 2, 2, 2)].as_slice()
-    );
     Ok(())
 }
 

@@ -4,7 +4,7 @@ use std::test::Fail;
 
 #[test]
 fn texts_of_graphs(rt: HostRuntime) -> Result<(), Fail> {
-    let short: &[Row] = &[(None, 0, &[Step::Start, Step::Plain, Step::End])];
+    let short: &[Row] = &[(None, 0, &[Step::Start, Step::Plain(1), Step::End])];
     let twice: &[Row] = &[
         (
             None,

@@ -1,6 +1,5 @@
-use Rattle.std.proofs.Common.{◌≡◌, ℕ, ◌<◌, List, length, get_or, Some, sym, ap, ◌∙◌, subst, arith, below_more}
+use Rattle.std.proofs.Common.{◌≡◌, ℕ, ◌<◌, List, length, get_or, Some, ap, ◌∙◌, subst, arith, below_more}
 use Rattle.cost_graph.specs.Graph.{vertex_priority}
-use Rattle.cost_graph.proofs.Ends.{priority_below}
 use Rattle.prompt_checker.specs.Watch.{IsHeld}
 use Rattle.prompt_checker.proofs.Held.{overtaken_made}
 use Rattle.prompt_checker.proofs.ready.overtaken.Goals as goal
@@ -10,7 +9,7 @@ loop-vertex-preserved c =
     let g = c.args.graph.now in
     let line = c.args.line.now.items in
     let i = c.loop-vertex.vertex-index in
-    let low : c.priority_of_vertex-low.result ≡ vertex_priority g (get_or line i 0) = c.priority_of_vertex-low.ensures ∙ ap (λ (l : List ℕ). vertex_priority g (get_or l i 0)) c.deref-vertex-items.ensures.value in
+    let low : c.priority_of_vertex-low.result ≡ vertex_priority g (get_or line i 0) = c.priority_of_vertex-low.ensures.is ∙ ap (λ (l : List ℕ). vertex_priority g (get_or l i 0)) c.deref-vertex-items.ensures.value in
     below_more (λ k. (u : ℕ) → IsHeld c.args.order.now.pairs c.args.ready.now.items (Some (vertex_priority g (get_or line k 0))) u → ⊥) i c.loop-vertex.invariant
     (subst (λ a. (u : ℕ) → IsHeld c.args.order.now.pairs c.args.ready.now.items (Some a) u → ⊥) low c.in_default.ensures)
 
@@ -21,17 +20,7 @@ returns-in-Some c =
     let same = c.deref-vertex-items.ensures.value in
     let lt : i < length line = omega (arith, c.loop-vertex-test.true, ap length same) in
     let at : get_or c.deref-vertex-items.result.now i 0 ≡ get_or line i 0 = ap (λ (l : List ℕ). get_or l i 0) same in
-    overtaken_made c.args.graph.now c.args.order.now.pairs c.args.ready.now.items line i c.priority_of_vertex-low.result (get_or c.deref-vertex-items.result.now i 0) c.in-Some.other lt at c.priority_of_vertex-low.ensures c.in-Some.ensures c.loop-vertex.invariant
-
-pub least_held-requires-clause-low : goal.least_held-requires-clause-low
-least_held-requires-clause-low c =
-    let g = c.args.graph.now in
-    let line = c.args.line.now.items in
-    let i = c.loop-vertex.vertex-index in
-    let same = c.deref-vertex-items.ensures.value in
-    let lt : i < length line = omega (arith, c.loop-vertex-test.true, ap length same) in
-    let low : c.priority_of_vertex-low.result ≡ vertex_priority g (get_or line i 0) = c.priority_of_vertex-low.ensures ∙ ap (λ (l : List ℕ). vertex_priority g (get_or l i 0)) same in
-    subst (λ (p : ℕ). p < length c.args.order.now.names) (sym low) (priority_below g (length c.args.order.now.names) (get_or line i 0) c.vertex_count-count.ensures.kept c.requires.priorities (c.requires.vertices i 0 lt))
+    overtaken_made c.args.graph.now c.args.order.now.pairs c.args.ready.now.items line i c.priority_of_vertex-low.result (get_or c.deref-vertex-items.result.now i 0) c.in-Some.other lt at c.priority_of_vertex-low.ensures.is c.in-Some.ensures c.loop-vertex.invariant
 
 pub returns : goal.returns
 returns c = λ k lt.

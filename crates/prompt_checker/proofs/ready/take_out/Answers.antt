@@ -6,20 +6,13 @@ use Rattle.std.specs.BTreeSet.{contains}
 use Rattle.std.proofs.lemmas.Grind.{common_steps}
 use Rattle.std.proofs.lemmas.List.{length-set}
 use Rattle.cost_graph.specs.Graph.{vertex_priority}
-use Rattle.cost_graph.proofs.Ends.{priority_below}
+use Rattle.cost_graph.proofs.Ends.{owned_below}
 use Rattle.prompt_checker.specs.Watch.{holds}
 use Rattle.prompt_checker.proofs.Held.{out_start, out_more}
 use Rattle.prompt_checker.proofs.ready.take_out.Goals as goal
 
 pub index_mut-requires : goal.index_mut-requires
-index_mut-requires c =
-    let line = c.args.line.now.items in
-    let i = c.loop-vertex.vertex-index in
-    let same = c.deref-vertex-items.ensures.value in
-    let lt : i < length line = omega (arith, c.loop-vertex-test.true, ap length same) in
-    let is : c.priority_of_vertex-p.result ≡ vertex_priority c.args.graph.now (get_or line i 0) = c.priority_of_vertex-p.ensures ∙ ap (λ (l : List ℕ). vertex_priority c.args.graph.now (get_or l i 0)) same in
-    let below = priority_below c.args.graph.now (length c.args.ready.now.items) (get_or line i 0) c.vertex_count-count.ensures.kept c.requires.priorities (c.requires.vertices i 0 lt) in
-    omega (arith, below, is, c.loop-vertex.invariant.long)
+index_mut-requires c = omega (arith, owned_below c.args.graph.now (length c.args.ready.now.items) c.priority_of_vertex-p.result c.requires.priorities c.priority_of_vertex-p.ensures.owned, c.loop-vertex.invariant.long)
 
 pub loop-vertex-init : goal.loop-vertex-init
 loop-vertex-init c = out_start c.args.graph.now c.args.line.now.items c.args.ready.now.items
@@ -35,9 +28,8 @@ loop-vertex-preserved c =
     let t = c.remove.new.self in
     let same = c.deref-vertex-items.ensures.value in
     let lt : i < length line = omega (arith, c.loop-vertex-test.true, ap length same) in
-    let is : p ≡ vertex_priority g (get_or line i 0) = c.priority_of_vertex-p.ensures ∙ ap (λ (l : List ℕ). vertex_priority g (get_or l i 0)) same in
-    let below = priority_below g (length c.args.ready.now.items) (get_or line i 0) c.vertex_count-count.ensures.kept c.requires.priorities (c.requires.vertices i 0 lt) in
-    let small : p < length now = omega (arith, below, is, c.loop-vertex.invariant.long) in
+    let is : p ≡ vertex_priority g (get_or line i 0) = c.priority_of_vertex-p.ensures.is ∙ ap (λ (l : List ℕ). vertex_priority g (get_or l i 0)) same in
+    let small : p < length now = omega (arith, owned_below c.args.graph.now (length c.args.ready.now.items) c.priority_of_vertex-p.result c.requires.priorities c.priority_of_vertex-p.ensures.owned, c.loop-vertex.invariant.long) in
     let updates = subst (λ (l : List ℕ). (v : ℕ) → contains nat_cmp t v ≡ cond (is_at (nat_cmp (get_or l i 0)) v) false (contains nat_cmp s v)) same c.remove.ensures.updates.0 in
     out_more g line c.args.ready.now.items now _ i p s t lt small c.index_mut.ensures.value refl is (length-set now p t) updates c.loop-vertex.invariant
 

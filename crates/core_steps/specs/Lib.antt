@@ -1,0 +1,11 @@
+pub mod Expressions
+pub mod Results
+pub mod Steps
+pub mod Config
+pub mod Meaning
+pub mod Determined
+pub mod Laws
+pub mod Places
+pub mod Fields
+pub mod Moves
+pub mod Locals

@@ -1,0 +1,127 @@
+//! The steps that end a block.
+
+ghost use Rattle.std.specs.Prelude.{◌≡◌, ℕ, Some, None, IfOk, OnErr};
+ghost use Rattle.priml_syntax.specs.Tree.{give, branch, split};
+ghost use Rattle.priml_syntax.specs.Read.{read_code, read_tail, read_term};
+ghost use Rattle.core_steps.specs.Fields.{running, read_frame, read_local, read_mode, body_at};
+ghost use Rattle.core_steps.specs.Locals.{MovesTo};
+ghost use Rattle.core_steps.specs.Moves.{CanStep, job_of};
+
+use crate::given::Given;
+use crate::kinds::{Sided, side, truth};
+use crate::local::{Local, Moved, without_child};
+use crate::place::Turn;
+use priml_syntax::{Block, Event, Expr, Outcome, TailForm};
+use std::alloc::{AllocError, Global};
+use type_rules::Job;
+
+impl Local {
+    // The ending of a block.
+    pub(crate) fn finish(
+        &mut self,
+        alloc: Global,
+        job: &Job,
+        form: &TailForm,
+    ) -> Result<Moved, AllocError>
+        requires can { CanStep (job_of job.now) (read_local self.old) None }
+        requires mode { read_mode self.old.mode ≡ running }
+        requires ending { (at : ℕ) × (body_at (job_of job.now).program (read_frame self.old.top) ≡ Some (read_tail form.now at)) }
+        ensures goes { IfOk result (λ m. MovesTo (job_of job.now) self.old None m self.new) }
+        ensures steps { self.new.steps ≡ self.old.steps }
+        ensures kept { OnErr result (read_local self.new ≡ read_local self.old) }
+    {
+        match form {
+            TailForm::Ret(expr) => self.give(alloc, job, expr),
+            TailForm::If(expr, a, b) => self.choose(alloc, job, expr, a, b),
+            TailForm::Case(expr, a, b) => self.split(alloc, job, expr, a, b),
+        }
+    }
+
+    // The value of a block goes to the frame below, or ends the thread.
+    fn give(&mut self, alloc: Global, job: &Job, expr: &Expr) -> Result<Moved, AllocError>
+        requires can { CanStep (job_of job.now) (read_local self.old) None }
+        requires mode { read_mode self.old.mode ≡ running }
+        requires ending { (at : ℕ) × (body_at (job_of job.now).program (read_frame self.old.top) ≡ Some (give at (read_term expr.now))) }
+        ensures goes { IfOk result (λ m. MovesTo (job_of job.now) self.old None m self.new) }
+        ensures steps { self.new.steps ≡ self.old.steps }
+        ensures kept { OnErr result (read_local self.new ≡ read_local self.old) }
+    {
+        match self.top.given(alloc, expr)? {
+            Given::Value(value) => {
+                if self.below.len() == 0 {
+                    return Ok(self.end(Outcome::Value(value)));
+                }
+                self.leave(value)?;
+                Ok(without_child(Event::Plain))
+            }
+            Given::Fault(kind) => Ok(self.end(Outcome::Fault(kind))),
+            Given::Wrong => unreachable!(),
+        }
+    }
+
+    // Goes on in the block that a condition chooses.
+    fn choose(
+        &mut self,
+        alloc: Global,
+        job: &Job,
+        expr: &Expr,
+        a: &Block,
+        b: &Block,
+    ) -> Result<Moved, AllocError>
+        requires can { CanStep (job_of job.now) (read_local self.old) None }
+        requires mode { read_mode self.old.mode ≡ running }
+        requires ending { (at : ℕ) × (body_at (job_of job.now).program (read_frame self.old.top) ≡ Some (branch at (read_term expr.now) (read_code a.now) (read_code b.now))) }
+        ensures goes { IfOk result (λ m. MovesTo (job_of job.now) self.old None m self.new) }
+        ensures steps { self.new.steps ≡ self.old.steps }
+        ensures kept { OnErr result (read_local self.new ≡ read_local self.old) }
+    {
+        match self.top.given(alloc, expr)? {
+            Given::Value(value) => match truth(&value) {
+                Some(true) => {
+                    self.branch(Turn::First)?;
+                    Ok(without_child(Event::Plain))
+                }
+                Some(false) => {
+                    self.branch(Turn::Second)?;
+                    Ok(without_child(Event::Plain))
+                }
+                None => unreachable!(),
+            },
+            Given::Fault(kind) => Ok(self.end(Outcome::Fault(kind))),
+            Given::Wrong => unreachable!(),
+        }
+    }
+
+    // Goes on in the block for the side of a sum, with what was inside.
+    fn split(
+        &mut self,
+        alloc: Global,
+        job: &Job,
+        expr: &Expr,
+        a: &Block,
+        b: &Block,
+    ) -> Result<Moved, AllocError>
+        requires can { CanStep (job_of job.now) (read_local self.old) None }
+        requires mode { read_mode self.old.mode ≡ running }
+        requires ending { (at : ℕ) × (body_at (job_of job.now).program (read_frame self.old.top) ≡ Some (split at (read_term expr.now) (read_code a.now) (read_code b.now))) }
+        ensures goes { IfOk result (λ m. MovesTo (job_of job.now) self.old None m self.new) }
+        ensures steps { self.new.steps ≡ self.old.steps }
+        ensures kept { OnErr result (read_local self.new ≡ read_local self.old) }
+    {
+        match self.top.given(alloc, expr)? {
+            Given::Value(value) => match side(value) {
+                Sided::Left(inner) => {
+                    self.branch_with(Turn::First, inner)?;
+                    Ok(without_child(Event::Plain))
+                }
+                Sided::Right(inner) => {
+                    self.branch_with(Turn::Second, inner)?;
+                    Ok(without_child(Event::Plain))
+                }
+                Sided::Wrong => unreachable!(),
+            },
+            Given::Fault(kind) => Ok(self.end(Outcome::Fault(kind))),
+            Given::Wrong => unreachable!(),
+        }
+    }
+}

@@ -1,0 +1,12 @@
+ghost use Rattle.core_steps.specs.Steps.{Job};
+ghost use Rattle.core_steps.specs.Laws.{CheckedLaws, CoreLaws, IsChecked};
+
+/// What holds of the threads of every job.
+pub fn core_laws()
+    ensures { (job : Job) → CoreLaws job }
+{}
+
+/// What holds of the threads of a checked job.
+pub fn checked_laws()
+    ensures { (job : Job) → IsChecked job → CheckedLaws job }
+{}

@@ -1,0 +1,20 @@
+//! Local steps of threads, and what holds of their interleavings.
+#![tactic(auto)]
+
+mod ending;
+mod expressions;
+mod frame;
+mod given;
+mod join;
+mod kinds;
+mod laws;
+mod local;
+mod numbers;
+mod place;
+mod step;
+
+pub use expressions::evaluate;
+pub use frame::{Frame, Root};
+pub use laws::{checked_laws, core_laws};
+pub use local::{Local, Mode, Moved, Next};
+pub use place::Turn;

@@ -6,9 +6,10 @@ use Rattle.priml.specs.declared.refusal.Reply.{Reply}
 use Rattle.priml.specs.declared.refusal.Reply.TheVariants.{Text, WrongWords, Refused, ReadFault, OutOfMemory}
 use Rattle.priml.specs.Lines.{read_fault_line, memory_line}
 use Rattle.priml.specs.Answers.{IsCheck, Answers}
-use Rattle.priml.specs.Headline.{SourceRun, SinkRun, IsAnswered, ReadFailed, WriteFailed, Appended, IsText, Ends, AcceptsExactly}
+use Rattle.priml.specs.Headline.{SourceRun, SinkRun, IsAnswered, ReadFailed, WriteFailed, Appended, IsText, Ends, AcceptsExactly, RunsSafely}
 use Rattle.priml.proofs.Accepted.{accepts_exactly}
 use Rattle.priml.proofs.OneAnswer.{the_answer}
+use Rattle.priml.proofs.SafeRuns.{runs_safely}
 use Rattle.priml.specs.Reply.{Replies, IsInputAnswered, IsFounded, IsRefused, Wrote, line_of, reply_status, reply_text}
 
 -- the answer to the input is the one to right words and the input
@@ -27,6 +28,7 @@ module _ (words : List (List ℕ)) (r : SourceRun) (w : SinkRun) (status : ℕ) 
   failed text start rest e fault parts appended is = record {
     answered = λ plain. absurd (plain.1 e);
     accepts = λ plain right. absurd (plain.1 e);
+    safe = λ plain right. absurd (plain.1 e);
     read = λ plain right. absurd (plain.1 e);
     right_words = λ two. absurd (omega (arith, two, e));
     wrong_words = λ wrong. inr (inl e);
@@ -40,6 +42,7 @@ module _ (words : List (List ℕ)) (r : SourceRun) (w : SinkRun) (status : ℕ) 
   founded s text low other right f (Wrote.whole e appended) = record {
     answered = λ plain. (text, subst (λ n. IsAnswered words r.before n text) (sym e) (checked words r.before s text right f.answered), appended);
     accepts = λ plain right. subst (AcceptsExactly r.before) (sym e) (accepts_exactly r.before s text f.answered);
+    safe = λ plain right. subst (RunsSafely r.before) (sym e) (runs_safely r.before s text f.answered);
     read = λ plain right. f.read;
     right_words = λ two. absurd (other (sym e ∙ two));
     wrong_words = λ wrong. absurd (wrong right);
@@ -54,6 +57,7 @@ module _ (words : List (List ℕ)) (r : SourceRun) (w : SinkRun) (status : ℕ) 
   wrong_words x f (Wrote.whole e appended) = record {
     answered = λ plain. (line_of x, subst (λ n. IsAnswered words r.before n (line_of x)) (sym (e ∙ f.ends)) (refused words r.before 2 (line_of x) f.answered), appended);
     accepts = λ plain right. absurd (f.wrong right);
+    safe = λ plain right. absurd (f.wrong right);
     read = λ plain right. absurd (f.wrong right);
     right_words = λ two. f.wrong;
     wrong_words = λ wrong. inl (e ∙ f.ends);
@@ -67,6 +71,7 @@ module _ (words : List (List ℕ)) (r : SourceRun) (w : SinkRun) (status : ℕ) 
   read_failed right fault (Wrote.whole e appended) = record {
     answered = λ plain. absurd (plain.0 e);
     accepts = λ plain right. absurd (plain.0 e);
+    safe = λ plain right. absurd (plain.0 e);
     read = λ plain right. absurd (plain.0 e);
     right_words = λ two. absurd (omega (arith, two, e));
     wrong_words = λ wrong. absurd (wrong right);
@@ -80,6 +85,7 @@ module _ (words : List (List ℕ)) (r : SourceRun) (w : SinkRun) (status : ℕ) 
   no_memory (Wrote.whole e appended) = record {
     answered = λ plain. absurd (plain.2 e);
     accepts = λ plain right. absurd (plain.2 e);
+    safe = λ plain right. absurd (plain.2 e);
     read = λ plain right. absurd (plain.2 e);
     right_words = λ two. absurd (omega (arith, two, e));
     wrong_words = λ wrong. inr (inr e);

@@ -3,3 +3,4 @@ pub mod Endings
 pub mod Founded
 pub mod OneAnswer
 pub mod Pieces
+pub mod SafeRuns

@@ -8,6 +8,7 @@ use Rattle.priml_syntax.specs.Tree.{Tree}
 use Rattle.source_reader.specs.Stands.{Stands}
 use Rattle.type_rules.specs.Typable.{Typable}
 use Rattle.priml.specs.Answers.{IsCheck, IsCut, Answers, input_limit}
+use Rattle.priml.specs.Runs.{IsSafe}
 
 -- a source before and after a run: the bytes that are left, where it tells them, and its faults
 pub record SourceRun : Type 0 where
@@ -68,6 +69,17 @@ abbrev pub AcceptsExactly : Option (List ℕ) → ℕ → Type 0
 AcceptsExactly None status = Unit {0}
 AcceptsExactly (Some input) status = length input ≤ input_limit → (status ≡ 0) ↔ IsAccepted input
 
+-- the input is accepted, its program section stands for no other program, and that program is safe to run
+pub record IsSafelyAccepted (input : List ℕ) : Type 0 where
+  pub accepted : IsAccepted input
+  pub only : (program : List ℕ) (tree : Tree) → IsCut input program → Stands program tree → tree ≡ accepted.tree
+  pub safe : IsSafe accepted.tree
+
+-- where the source told its bytes, and the status is 0, their program is safe to run
+abbrev pub RunsSafely : Option (List ℕ) → ℕ → Type 0
+RunsSafely None status = Unit {0}
+RunsSafely (Some input) status = status ≡ 0 → IsSafelyAccepted input
+
 -- what is left of the input: nothing, or where it passes the limit all behind the first byte past it
 abbrev pub HasRead : List ℕ → Option (List ℕ) → Type 0
 HasRead input after = ((input_limit < length input) × (after ≡ Some (drop (input_limit + 1) input))) ⊎ ((length input ≤ input_limit) × (after ≡ Some []))
@@ -98,6 +110,8 @@ pub record Ends (words : List (List ℕ)) (r : SourceRun) (w : SinkRun) (status 
   pub answered : IsAnswer status → (text : List ℕ) × IsAnswered words r.before status text × Appended w text
   -- `check` accepts exactly the typable programs
   pub accepts : IsAnswer status → IsCheck words → AcceptsExactly r.before status
+  -- in every interleaving of an accepted program, for all inputs, no thread waits on a priority that is not at least its own
+  pub safe : IsAnswer status → IsCheck words → RunsSafely r.before status
   -- an answer to right words rests on the whole input, or on its first bytes up to one past the limit
   pub read : IsAnswer status → IsCheck words → IsRead r.before r.after
   -- 2 comes for wrong words alone

@@ -2,3 +2,4 @@ pub mod Answers
 pub mod Headline
 pub mod Lines
 pub mod Reply
+pub mod Runs

@@ -60,7 +60,7 @@ choice_followed job ts p c =
     ap (option_and_then (λ m. Some (after ts c.thread m))) c.steps))
 
 -- an outcome that is handed in is that of a thread that has ended
-ended_given : (ts : List Thread) (b : List ℕ) (w : Option Outcome') → handed ts (Some b) ≡ Some w → (u : Thread) × (o : Outcome') × (thread_at ts b ≡ Some u) × (u.state.phase ≡ Ended o) × (w ≡ Some o)
+pub ended_given : (ts : List Thread) (b : List ℕ) (w : Option Outcome') → handed ts (Some b) ≡ Some w → (u : Thread) × (o : Outcome') × (thread_at ts b ≡ Some u) × (u.state.phase ≡ Ended o) × (w ≡ Some o)
 ended_given ts b w e = go (thread_at ts b) refl e
   where
     go : (o : Option Thread) → thread_at ts b ≡ o → ended_of o ≡ Some w → (u : Thread) × (o : Outcome') × (thread_at ts b ≡ Some u) × (u.state.phase ≡ Ended o) × (w ≡ Some o)

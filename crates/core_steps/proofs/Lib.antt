@@ -39,3 +39,9 @@ pub mod Standing
 pub mod StepRows
 pub mod EndRows
 pub mod StepLaws
+pub mod Slots
+pub mod Searched
+pub mod Choices
+pub mod Recorded
+pub mod Placed
+pub mod Advanced

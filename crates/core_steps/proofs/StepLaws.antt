@@ -57,7 +57,7 @@ no_await (Case' e p x q y) at f = refl
 pub state_path : (p : Tree) (l : LocalFields) (s : State) → state_of p l ≡ Some s → s.path ≡ l.path
 state_path p l s e = ap (λ (x : State). x.path) (sym (opened p l s e).is)
 
-live_phase : (p : Tree) (l : LocalFields) (m : Mode') (f : Phase) → ended_with m ≡ None → phase_of p l m ≡ Some f → outcome_in f ≡ None
+pub live_phase : (p : Tree) (l : LocalFields) (m : Mode') (f : Phase) → ended_with m ≡ None → phase_of p l m ≡ Some f → outcome_in f ≡ None
 live_phase p l fresh f none e = go (frame_of p l.top) l.below e
   where
     go : (o : Option Frame) (fs : List FrameFields) → fresh_phase o fs ≡ Some f → outcome_in f ≡ None

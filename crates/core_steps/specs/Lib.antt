@@ -9,3 +9,4 @@ pub mod Places
 pub mod Fields
 pub mod Moves
 pub mod Locals
+pub mod Configs

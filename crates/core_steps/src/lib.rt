@@ -1,6 +1,7 @@
 //! Local steps of threads, and what holds of their interleavings.
 #![tactic(auto)]
 
+mod config;
 mod ending;
 mod expressions;
 mod frame;
@@ -13,6 +14,7 @@ mod numbers;
 mod place;
 mod step;
 
+pub use config::{Config, CoreStop, Slot};
 pub use expressions::evaluate;
 pub use frame::{Frame, Root};
 pub use laws::{checked_laws, core_laws};

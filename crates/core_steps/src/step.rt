@@ -324,7 +324,7 @@ fn wrote(n: i64) -> Event
 }
 
 // The program of a job is typable, and in scope.
-fn check(job: &Job)
+pub(crate) fn check(job: &Job)
     ensures { IsChecked (job_of job.now) }
 {
     let _program = job.checked().program();

@@ -1,1 +1,3 @@
+pub mod Spawning
+pub mod Stack
 pub mod Worked

@@ -1,10 +1,12 @@
-//! The text of a run: what each thread's record says, and the number of all steps.
+//! The serial meaning of a job, and the text of a run: what each thread's record says, and the number of all steps.
 #![tactic(auto)]
 
 mod outcome;
+mod serial;
 #[cfg(test)]
 mod tests;
 mod text;
 mod written;
 
+pub use serial::{MeaningStop, meaning};
 pub use text::run_text;

@@ -1,0 +1,24 @@
+use Rattle.std.proofs.Common.{map, refl, subst}
+use Rattle.std.specs.Option.{option_map}
+use Rattle.priml_syntax.specs.Read.{read_record}
+use Rattle.core_steps.specs.Configs.{AreRecords, slots_of}
+use Rattle.core_steps.specs.Moves.{job_of}
+use Rattle.serial_meaning.proofs.Stack.{none_at_end, serial_start, told_at_end}
+use Rattle.serial_meaning.proofs.serial.meaning.Goals as goal
+
+pub run-requires-clause-serial : goal.run-requires-clause-serial
+run-requires-clause-serial c = serial_start (job_of c.args.job.now) (slots_of c.in_ok-config.config) c.in_ok-active.active.items refl c.in_ok-config.ensures.threads c.in_ok-active.ensures
+
+pub unreachable-requires : goal.unreachable-requires
+unreachable-requires c =
+    let job = job_of c.args.job.now in
+    let end = c.in_ok-run.ensures.done in
+    let is = c.in_ok-run.ensures.config in
+    none_at_end job end.0 (slots_of c.run.new.config) end.2 is (subst (λ o. AreRecords job is.threads (option_map (map read_record) o)) c.in-None.is (c.in_ok-records.ensures job is))
+
+pub returns-clause-ok : goal.returns-clause-ok
+returns-clause-ok c =
+    let job = job_of c.args.job.now in
+    let end = c.in_ok-run.ensures.done in
+    let is = c.in_ok-run.ensures.config in
+    told_at_end job end.0 c.args.limit (slots_of c.run.new.config) end.2 is (map read_record c.in-Some.records) end.1 (subst (λ o. AreRecords job is.threads (option_map (map read_record) o)) c.in-Some.is (c.in_ok-records.ensures job is))

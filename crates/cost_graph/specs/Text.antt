@@ -1,18 +1,10 @@
--- The text of paths, vertices and graphs.
+-- The text of vertices and graphs.
 use Rattle.std.specs.Prelude.{ℕ, ◌+◌, List, [], ◌∷◌, ◌++◌, if◌then◌else◌, not, codes, get_or, nat_eq}
 use Rattle.std.specs.List.{flat_map, filter, range_with_len}
 use Rattle.std.specs.Fmt.{decimal}
+use Rattle.priml_syntax.specs.Text.{path_text}
 use Rattle.cost_graph.specs.declared.graph.Thread.{Thread}
 use Rattle.cost_graph.specs.Graph.{CostGraph, Vertex, vertex_total, thread_total, parents_at, first_vertex, name_of}
-
--- a number with a dot before it
-abbrev pub dotted : ℕ → List ℕ
-dotted n = codes "." ++ decimal n
-
--- the numbers of a path with a dot between
-abbrev pub path_text : List ℕ → List ℕ
-path_text [] = []
-path_text (x ∷ xs) = decimal x ++ flat_map dotted xs
 
 -- a path, a colon and a number
 abbrev pub name_text : Vertex → List ℕ

@@ -20,4 +20,4 @@ pub use marks::{run_step, sources};
 pub use order::{has_cycle, topological};
 pub use shape::well_formed;
 pub use stop::{Shape, ShapeStop};
-pub use text::{push_path, push_vertex};
+pub use text::push_vertex;

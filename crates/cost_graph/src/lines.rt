@@ -7,7 +7,8 @@ ghost use Rattle.cost_graph.specs.Graph.{vertex_total, thread_total, parents_at,
 ghost use Rattle.cost_graph.specs.Text.{thread_line, edge_line, spawn_lines, joins_to, join_lines, graph_lines};
 
 use crate::graph::Graph;
-use crate::text::{push_path, push_vertex};
+use crate::text::push_vertex;
+use priml_syntax::push_path;
 use priority_order::Order;
 use std::alloc::{AllocError, Global};
 use std::fmt::Write;

@@ -19,6 +19,7 @@ mod path;
 mod prio;
 mod program;
 mod record;
+mod text;
 mod ty;
 mod value;
 
@@ -30,5 +31,6 @@ pub use path::{Path, PathStop};
 pub use prio::Prio;
 pub use program::{Proc, Program};
 pub use record::{Record, Records};
+pub use text::{push_path, push_path_and};
 pub use ty::Ty;
 pub use value::{FaultKind, Outcome, Value};

@@ -3,7 +3,7 @@ use Rattle.std.specs.Prelude.{ℕ, List, [], ◌∷◌, ◌++◌, codes, get_or}
 use Rattle.std.specs.List.{flat_map}
 use Rattle.std.specs.Fmt.{decimal}
 use Rattle.cost_graph.specs.Graph.{CostGraph, thread_at}
-use Rattle.cost_graph.specs.Text.{path_text}
+use Rattle.priml_syntax.specs.Text.{path_text}
 use Rattle.response_report.specs.declared.row.Row.{Row}
 
 -- the line of a row, with the thread's path and its priority's name

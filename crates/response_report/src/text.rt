@@ -8,7 +8,8 @@ ghost use Rattle.response_report.specs.declared.row.Row.{Row as TheRow};
 ghost use Rattle.response_report.specs.Text.{row_line, response_lines};
 
 use crate::row::Row;
-use cost_graph::{Graph, push_path};
+use cost_graph::Graph;
+use priml_syntax::push_path;
 use priority_order::Order;
 use std::alloc::{AllocError, Global};
 use std::fmt::Write;

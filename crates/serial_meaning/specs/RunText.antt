@@ -8,7 +8,7 @@ use Rattle.priml_syntax.specs.declared.event.Event.{Event}
 use Rattle.priml_syntax.specs.declared.event.Event.TheVariants.{Wrote}
 use Rattle.priml_syntax.specs.Values.{Value', unit_value, bool_value, int_value, pair_value, left_value, right_value, thread_value, Outcome', returned, faulted, Entry}
 use Rattle.priml_syntax.specs.Records.{work}
-use Rattle.cost_graph.specs.Text.{path_text}
+use Rattle.priml_syntax.specs.Text.{path_text}
 
 -- a value
 abbrev pub value_text : Value' → List ℕ

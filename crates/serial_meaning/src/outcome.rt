@@ -1,11 +1,10 @@
 ghost use Rattle.std.specs.Prelude.{◌≡◌, ◌++◌, codes, OnOk};
 ghost use Rattle.std.specs.String.{string_bytes};
 ghost use Rattle.priml_syntax.specs.Read.{read_value, read_outcome};
-ghost use Rattle.cost_graph.specs.Text.{path_text};
+ghost use Rattle.priml_syntax.specs.Text.{path_text};
 ghost use Rattle.serial_meaning.specs.RunText.{value_text, fault_text, outcome_text};
 
-use cost_graph::push_path;
-use priml_syntax::{FaultKind, Outcome, Path, Value};
+use priml_syntax::{FaultKind, Outcome, Path, Value, push_path};
 use std::alloc::AllocError;
 use std::fmt::Write;
 

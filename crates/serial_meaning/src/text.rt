@@ -9,8 +9,7 @@ ghost use Rattle.serial_meaning.specs.RunText.{thread_line, record_lines, run_li
 
 use crate::outcome::push_outcome;
 use crate::written::push_out;
-use cost_graph::push_path;
-use priml_syntax::{Record, Records};
+use priml_syntax::{Record, Records, push_path};
 use priority_order::Order;
 use std::alloc::{AllocError, Global};
 use std::fmt::Write;

@@ -1,8 +1,8 @@
 use Rattle.std.proofs.Common.{◌≡◌, ◌+◌, ◌*◌, ◌≤◌, ◌++◌, drop}
 use Rattle.std.specs.String.{string_bytes, string_len, string_capacity}
 use Rattle.std.specs.List.{flat_map}
-use Rattle.cost_graph.specs.Text.{dotted}
-use Rattle.cost_graph.proofs.text.put_dotted.Given as goal
+use Rattle.priml_syntax.specs.Text.{dotted}
+use Rattle.priml_syntax.proofs.text.put_dotted.Given as goal
 
 abbrev pub invariant-loop-number : goal.invariant-loop-number
 invariant-loop-number l =

@@ -1,4 +1,4 @@
-ghost use Rattle.std.specs.Prelude.{◌≡◌, ℕ, ◌+◌, ◌<◌, ◌++◌, ◌∷◌, [], ◌^◌, List, length, map, replicate, IfOk, IfErr, OnOk, Some};
+ghost use Rattle.std.specs.Prelude.{◌≡◌, ◌↔◌, ℕ, ◌+◌, ◌<◌, ◌++◌, ◌∷◌, [], ◌^◌, List, length, map, replicate, IfOk, IfErr, OnOk, Some};
 ghost use Rattle.std.specs.Ordering.{nat_cmp};
 ghost use Rattle.std.specs.Cmp.Lexicographic.{slice_cmp};
 ghost use Rattle.priml_syntax.specs.Events.{one_spawn};
@@ -33,8 +33,8 @@ impl Graph {
         ensures graph { IfOk result (IsGraphOf (parts_in records.now)) }
         ensures only { IfOk result (λ g. (other : CostGraph) → IsGraphOf (parts_in records.now) other → g ≡ other) }
         ensures lines { IfOk result (HasLinesOf (parts_in records.now)) }
-        ensures acyclic { IfOk result (λ g. IsAcyclicGraph (parts_in records.now) → IsAcyclic g) }
-        ensures well_formed { IfOk result (λ g. (pairs : List (ℕ × ℕ)) → IsWellFormedGraph pairs (parts_in records.now) → IsWellFormed g pairs) }
+        ensures acyclic { IfOk result (λ g. IsAcyclicGraph (parts_in records.now) ↔ IsAcyclic g) }
+        ensures well_formed { IfOk result (λ g. (pairs : List (ℕ × ℕ)) → IsWellFormedGraph pairs (parts_in records.now) ↔ IsWellFormed g pairs) }
     {
         let list = records.list();
         let threads = threads_of(alloc, list)?;

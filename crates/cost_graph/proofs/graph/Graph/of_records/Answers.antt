@@ -1,11 +1,11 @@
-use Rattle.std.proofs.Common.{◌≡◌, ℕ, List, sym, subst}
+use Rattle.std.proofs.Common.{◌≡◌, ◌↔◌, ℕ, List, sym, subst}
 use Rattle.priml_syntax.specs.declared.record.Record.{Record}
 use Rattle.cost_graph.specs.Graph.{CostGraph, IsAcyclic, IsWellFormed}
 use Rattle.cost_graph.specs.View.{graph_of}
 use Rattle.cost_graph.specs.Records.{parts_in, AreFinished, IsGraphOf, IsAcyclicGraph, IsWellFormedGraph}
 use Rattle.cost_graph.specs.RecordLines.{HasLinesOf}
 use Rattle.cost_graph.proofs.Made.{firsts_known, made_of_list, apart_of_list}
-use Rattle.cost_graph.proofs.Carried.{carried_acyclic, carried_well_formed}
+use Rattle.cost_graph.proofs.Carried.{same_acyclic, same_well_formed}
 use Rattle.cost_graph.proofs.OneGraph.{one_graph}
 use Rattle.cost_graph.proofs.Said.{lines_said}
 use Rattle.cost_graph.proofs.graph.Graph.of_records.Goals as goal
@@ -57,7 +57,7 @@ returns-clause-acyclic c =
     let made = graph_of c.in_ok-threads.threads.items c.in_ok-parents.parents.items in
     let whole = made_of_list c.list-list.result.now rs c.in_ok-threads.threads.items c.in_ok-parents.parents.items c.list-list.ensures.value c.list-list.ensures.in_order c.requires c.in_ok-threads.ensures c.in_ok-parents.ensures.long c.in_ok-parents.ensures.right in
     let apart = apart_of_list c.list-list.result.now rs c.list-list.ensures.value c.list-list.ensures.in_order in
-    held c.in_ok-graph.graph made (λ (g : CostGraph). IsAcyclicGraph (parts_in rs) → IsAcyclic g) (carried_acyclic (parts_in rs) apart made whole) c.in_ok-graph.ensures.made
+    held c.in_ok-graph.graph made (λ (g : CostGraph). IsAcyclicGraph (parts_in rs) ↔ IsAcyclic g) (same_acyclic (parts_in rs) apart made whole) c.in_ok-graph.ensures.made
 
 pub returns-clause-well_formed : goal.returns-clause-well_formed
 returns-clause-well_formed c =
@@ -65,4 +65,4 @@ returns-clause-well_formed c =
     let made = graph_of c.in_ok-threads.threads.items c.in_ok-parents.parents.items in
     let whole = made_of_list c.list-list.result.now rs c.in_ok-threads.threads.items c.in_ok-parents.parents.items c.list-list.ensures.value c.list-list.ensures.in_order c.requires c.in_ok-threads.ensures c.in_ok-parents.ensures.long c.in_ok-parents.ensures.right in
     let apart = apart_of_list c.list-list.result.now rs c.list-list.ensures.value c.list-list.ensures.in_order in
-    held c.in_ok-graph.graph made (λ (g : CostGraph). (pairs : List (ℕ × ℕ)) → IsWellFormedGraph pairs (parts_in rs) → IsWellFormed g pairs) (carried_well_formed (parts_in rs) apart made whole) c.in_ok-graph.ensures.made
+    held c.in_ok-graph.graph made (λ (g : CostGraph). (pairs : List (ℕ × ℕ)) → IsWellFormedGraph pairs (parts_in rs) ↔ IsWellFormed g pairs) (same_well_formed (parts_in rs) apart made whole) c.in_ok-graph.ensures.made

@@ -1,10 +1,14 @@
 //! The competitors' work and the span of a thread in a cost graph.
 #![tactic(auto)]
 
+mod competitors;
+mod group;
+mod kin;
 mod level;
+mod level_of_each;
 mod size;
 mod thread;
 
-pub use level::levels;
+pub use group::measure_all;
 pub use size::Measure;
-pub use thread::{measure, measure_along};
+pub use thread::measure;

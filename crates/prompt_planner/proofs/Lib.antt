@@ -5,3 +5,4 @@ pub mod Prompt
 pub mod Unique
 pub mod OwnLanes
 pub mod Within
+pub mod OneCanonical

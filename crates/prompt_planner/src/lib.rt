@@ -2,6 +2,8 @@
 #![tactic(auto)]
 
 mod lanes;
+mod laws;
 mod planner;
 
+pub use laws::one_canonical_plan;
 pub use planner::{plan, plan_by_lanes};

@@ -3,3 +3,4 @@ pub mod Places
 pub mod Timed
 pub mod Worked
 pub mod Gathered
+pub mod OneRows

@@ -1,3 +1,4 @@
 pub mod Response
 pub mod Places
 pub mod Text
+pub mod Laws

@@ -2,6 +2,7 @@
 #![tactic(auto)]
 
 mod bound;
+mod laws;
 mod place;
 mod report;
 mod row;
@@ -10,6 +11,7 @@ mod tests;
 mod text;
 
 pub use bound::response_is_bounded;
+pub use laws::rows_are_one;
 pub use report::rows;
 pub use row::{ReportStop, Row};
 pub use text::response_text;

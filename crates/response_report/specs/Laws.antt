@@ -1,0 +1,10 @@
+-- What holds of the rows of every graph and prompt schedule.
+use Rattle.std.specs.Prelude.{◌≡◌, ℕ, List}
+use Rattle.cost_graph.specs.Graph.{CostGraph, IsVertexBelow}
+use Rattle.prompt_checker.specs.Schedule.{IsPrompt}
+use Rattle.response_report.specs.declared.row.Row.{Row}
+use Rattle.response_report.specs.Response.{AreRows}
+
+-- a graph has at most one list of rows under a prompt schedule
+abbrev pub RowsAreOne : Type 0
+RowsAreOne = (g : CostGraph) (pairs : List (ℕ × ℕ)) (cores : ℕ) (steps : List (List ℕ)) → IsPrompt g (IsVertexBelow g pairs) cores steps → (a b : List Row) → AreRows g pairs cores steps a → AreRows g pairs cores steps b → a ≡ b

@@ -15,11 +15,11 @@ by_letters a b =
     if a == 99 then named.Check else if a == 116 then named.Trace else if a == 103 then named.Graph else if a == 112 then named.Plan else if a == 106 then named.Judge
     else if a == 115 then (if b == 101 then named.Serial else named.Sample) else (if b == 101 then named.Report else named.Run)
 
-by_word : List ℕ → Name
+pub by_word : List ℕ → Name
 unfolding by_letters
 by_word w = by_letters (get_or w 0 0) (get_or w 1 0)
 
-found : (n : Name) → by_word (word_of n) ≡ n
+pub found : (n : Name) → by_word (word_of n) ≡ n
 unfolding by_word
 found named.Check = refl
 found named.Serial = refl

@@ -2,6 +2,7 @@
 #![tactic(auto)]
 
 mod ends;
+mod laws;
 mod memory;
 mod sections;
 mod standard;
@@ -10,6 +11,7 @@ mod whole;
 mod words;
 
 pub use ends::{Failed, Sink, Source};
+pub use laws::all_words_are_read;
 pub use memory::{MemSink, MemSource};
 pub use sections::{SectionFault, Sections, next_line, split};
 pub use standard::{StdSink, StdSource};

@@ -8,13 +8,13 @@ use Rattle.source_tokens.specs.declared.token.Kind.TheVariants as k
 use Rattle.source_tokens.specs.declared.token.Token.{Token}
 use Rattle.source_tokens.specs.declared.token.Stop.{Stop}
 use Rattle.source_tokens.specs.Lexemes.{begins, behind, is_passed, keeps_comment, IsLexeme, of_digits}
-use Rattle.source_tokens.specs.Lexes.{IsDistinct, Spells, word, sign, number, old_name, new_name, opens, open_behind, place, Lexes, done, bad_byte, bad_number, too_deep, next, IsLexed}
-use Rattle.source_tokens.specs.Laws.{IsEndFrom, AreInOrder, IsNameBelow, AreNamesBelow, first_deep, deep_place, AreLawful}
+use Rattle.source_tokens.specs.Lexes.{IsDistinct, Spells, word, sign, number, old_name, new_name, opens, closes, open_behind, place, Lexes, done, bad_byte, bad_number, too_deep, next, IsLexed}
+use Rattle.source_tokens.specs.Laws.{IsEndFrom, AreInOrder, IsNameBelow, AreNamesBelow, first_deep, deep_place, AreShallow, AreLawful}
 use Rattle.source_tokens.proofs.Longest.{nil_no_lexeme}
 use Rattle.source_tokens.proofs.Spelled.{spelled, spelled_distinct}
 use Rattle.source_tokens.proofs.Once.{no_names}
 
-behind_shorter : (in_comment : Bool) (bs : List ℕ) → length (behind in_comment bs) ≤ length bs
+pub behind_shorter : (in_comment : Bool) (bs : List ℕ) → length (behind in_comment bs) ≤ length bs
 behind_shorter in_comment [] = omega arith
 behind_shorter in_comment (b ∷ bs) = go (is_passed in_comment b) refl (behind_shorter (keeps_comment in_comment b) bs)
   where
@@ -22,7 +22,7 @@ behind_shorter in_comment (b ∷ bs) = go (is_passed in_comment b) refl (behind_
     go true e shorter = rw e (omega arith)
     go false e shorter = rw e (omega arith)
 
-lexeme_some : (lexeme : List ℕ) → IsLexeme lexeme → 0 < length lexeme
+pub lexeme_some : (lexeme : List ℕ) → IsLexeme lexeme → 0 < length lexeme
 lexeme_some [] is = absurd (nil_no_lexeme is)
 lexeme_some (b ∷ bs) is = omega arith
 
@@ -134,7 +134,26 @@ deep {total} {depth = depth} {bs = bs} (next lexeme rest kind later more e longe
     ∙ cond-false (opens kind && nat_le 64 depth) (Some (place total bs)) (first_deep (open_behind kind depth) more) (passes kind depth shallow)
     ∙ deep tail
 
+-- brackets that are open stay few
+open_next : (kind : Kind) (depth : ℕ) → depth ≤ 64 → (IsTrue (opens kind) → depth < 64) → open_behind kind depth ≤ 64
+open_next kind depth few shallow = go (opens kind) refl (closes kind) refl
+  where
+    go : (b : Bool) → opens kind ≡ b → (d : Bool) → closes kind ≡ d → open_behind kind depth ≤ 64
+    go true e d f = let l = shallow e in rw e (omega arith)
+    go false e true f = rw (e, f) (omega arith)
+    go false e false f = rw (e, f) (omega arith)
+
+few_open : {total depth : ℕ} {known : List (List ℕ)} {bs : List ℕ} {ts : List Token} {ns : List (List ℕ)} {end : Stop}
+    → depth ≤ 64 → Lexes total depth known bs ts ns end → AreShallow depth ts
+few_open {depth = depth} few (done e t n s) = subst (AreShallow depth) (sym t) (omega arith)
+few_open {depth = depth} few (bad_byte b rest e none t n s) = subst (AreShallow depth) (sym t) (omega arith)
+few_open {depth = depth} few (bad_number lexeme rest e longest digits large t n s) = subst (AreShallow depth) (sym t) (omega arith)
+few_open {depth = depth} few (too_deep lexeme rest kind e longest spells opening down t s) =
+    subst (AreShallow depth) (sym t) (few, rw (opening) (omega arith))
+few_open {depth = depth} few (next lexeme rest kind later more e longest spells shallow t tail) =
+    subst (AreShallow depth) (sym t) (few, few_open (open_next kind depth few shallow) tail)
+
 -- what holds of the tokens of every text
 pub lexed_lawful : (text : List ℕ) (ts : List Token) (ns : List (List ℕ)) (end : Stop) → IsLexed text ts ns end → AreLawful (length text) ts ns end
 lexed_lawful text ts ns end h =
-    record { in_order = in_order 0 (omega arith) (omega arith) h; distinct = distinct no_names h; numbered = (numbered h).below; deep = deep h }
+    record { in_order = in_order 0 (omega arith) (omega arith) h; distinct = distinct no_names h; numbered = (numbered h).below; deep = deep h; shallow = few_open (omega arith) h }

@@ -1,4 +1,5 @@
 pub mod Digits
+pub mod EveryText
 pub mod Gaps
 pub mod Lawful
 pub mod Longest

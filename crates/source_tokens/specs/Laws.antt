@@ -5,7 +5,7 @@ use Rattle.source_tokens.specs.declared.token.Kind.TheVariants as k
 use Rattle.source_tokens.specs.declared.token.Token.{Token}
 use Rattle.source_tokens.specs.declared.token.Stop.{Stop}
 use Rattle.source_tokens.specs.declared.token.Stop.TheVariants as stop
-use Rattle.source_tokens.specs.Lexes.{IsDistinct, opens, open_behind}
+use Rattle.source_tokens.specs.Lexes.{IsDistinct, opens, open_behind, IsLexed}
 
 -- the fault of a text lies in it, behind all tokens or at the last
 abbrev pub IsEndFrom : ℕ → ℕ → Stop → Type 0
@@ -42,9 +42,22 @@ deep_place (stop.BadByte at) = None
 deep_place (stop.BadNumber at) = None
 deep_place (stop.TooDeep at) = Some at
 
+-- at most 64 brackets are ever open, or 65 by the last token, where `depth` are open before these tokens
+abbrev pub AreShallow : ℕ → List Token → Type 0
+AreShallow depth [] = depth ≤ 65
+AreShallow depth (t ∷ ts) = (depth ≤ 64) × AreShallow (open_behind t.kind depth) ts
+
 -- what holds of the tokens, the names and the end of a text of `total` bytes
 pub record AreLawful (total : ℕ) (tokens : List Token) (names : List (List ℕ)) (end : Stop) : Type 0 where
   pub in_order : AreInOrder 0 total tokens end
   pub distinct : IsDistinct names
   pub numbered : AreNamesBelow (length names) tokens
   pub deep : first_deep 0 tokens ≡ deep_place end
+  pub shallow : AreShallow 0 tokens
+
+-- the text has tokens, distinct names and an end
+pub record HasTokens (text : List ℕ) : Type 0 where
+  pub tokens : List Token
+  pub names : List (List ℕ)
+  pub end : Stop
+  pub lexed : IsLexed text tokens names end

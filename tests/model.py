@@ -1,10 +1,10 @@
 #!/usr/bin/env python3
-"""A model of `check`: what the program has to answer, in Python, for tests/fuzz.py.
+"""A model of the program: what it has to answer, in Python, for tests/fuzz.py.
 
     model.py WORD.. < INPUT
 
 It says in another way what docs/LANGUAGE.md and docs/FORMATS.md say, and is made to be read beside them: the headings
-below are theirs. Speed and want of memory play no part in it. Where the program has a parser, this has the grammar of the
+below are theirs. model_steps.py does so for docs/STEPS.md, model_schedules.py for docs/SCHEDULES.md. Speed and want of memory play no part in it. Where the program has a parser, this has the grammar of the
 docs and the set of all derivations that are still possible; where the program stops at a fault, this mostly gathers all
 faults and takes the least.
 """
@@ -12,6 +12,10 @@ import functools
 import re
 import sys
 from collections import namedtuple
+
+sys.dont_write_bytecode = True
+import model_schedules as schedules
+import model_steps as steps
 
 
 class Refused(Exception):
@@ -23,25 +27,59 @@ def need(right, status, line):
         raise Refused(status, line)
 
 
-def answer(words, data):
-    """The status and the output for these words (a list of bytes) and this input (bytes)."""
+def answer(words, data, built=None):
+    """The status and the output for these words (a list of bytes) and this input (bytes) of a program that answers the
+    commands `built`, by default all that this model answers."""
     try:
-        look_at_words(words)
+        command, *numbers = look_at_words(words, built or BUILT)
         need(len(data) <= 4194304, 7, "limit: input")
-        tokens = right_tokens(program_section(data))
-        type_program(*Reader(tokens).program())
+        sections = sections_of(data)
+        reader = Reader(right_tokens(sections[b"program"]))
+        pairs, procedures, main = reader.program()
+        type_program(pairs, procedures, main)
+        if command == b"check":
+            return 0, b"ok\n"
+        job = steps.Job(procedures, main, read_inputs(lines_of(sections[b"inputs"])))
+        lines = report(command, numbers, job, schedules.Order(reader.priorities, pairs), lines_of(sections[b"schedule"]))
     except Refused as end:
         return end.args[0], end.args[1].encode() + b"\n"
-    return 0, b"ok\n"
+    return 0, "".join(line + "\n" for line in lines).encode()
+
+
+def report(command, numbers, job, order, schedule_lines):
+    """The lines of each command but `check`. The step limit is the last number, the cores the one before it."""
+    try:
+        records = job.records_within(numbers[-1])
+    except steps.PastLimit:
+        raise Refused(7, "limit: steps")
+    if command == b"serial":
+        return steps.run_text(records)
+    graph = schedules.Graph(records, order)
+    if command == b"graph":
+        return schedules.graph_text(graph)
+    cores = numbers[0]
+    if command == b"judge":
+        schedule, fault = schedules.read_schedule(schedule_lines, graph)
+        need(fault is None, 5, "schedule: %s" % fault)
+        flaw = schedules.flaw(graph, cores, schedule)
+        need(flaw is None, 6, "flaw: step %s" % flaw)
+    else:
+        schedule = schedules.plan(graph, cores)
+    if command == b"plan":
+        return schedules.plan_text(schedule)
+    need(len(graph.threads) * len(graph.priority) <= 134217728, 7, "limit: report")
+    return steps.run_text(records) + schedules.response_text(graph, schedule, cores)
 
 
 # ---------------------------------------------------------------- Words
 COMMANDS = {b"check": "", b"serial": "L", b"graph": "L", b"report": "PL", b"plan": "PL", b"judge": "PL",
             b"run": "WQPL", b"trace": "WQL", b"sample": "NWQPL"}
 MOST = {"W": 16, "Q": 1000, "P": 1024, "L": 100000, "N": 5000}
+BUILT = [b"check", b"serial", b"graph", b"report", b"plan", b"judge"]
 
 
-def look_at_words(words):
+def look_at_words(words, built):
+    """The command and its numbers."""
     need(words, 2, "words: no command")
     are_texts = all(word.decode("utf-8", "ignore").encode() == word for word in words)
     need(words[0] in COMMANDS and are_texts, 2, "words: unknown command")
@@ -50,7 +88,8 @@ def look_at_words(words):
     for number, (word, letter) in enumerate(zip(words[1:], letters), 1):
         need(re.fullmatch(b"[0-9]+", word), 2, "words: bad number at number %d" % number)
         need(1 <= value(word) <= MOST[letter], 2, "words: out of range at number %d" % number)
-    need(words[0] == b"check", 2, "words: not built")
+    need(words[0] in built, 2, "words: not built")
+    return [words[0]] + [value(word) for word in words[1:]]
 
 
 def value(digits):
@@ -60,17 +99,42 @@ def value(digits):
 
 
 # ---------------------------------------------------------------- Sections
-def program_section(data):
-    """All before the first line that begins a section."""
-    end, seen = len(data), set()
-    for heading in re.finditer(rb"(?m)^===([^\n]*)", data):
-        end = min(end, heading.start())
+def sections_of(data):
+    """The texts of the sections: the program is all before the first line that begins one."""
+    texts, name, start = {}, b"program", 0
+    for heading in re.finditer(rb"(?m)^===([^\n]*)\n?", data):
+        texts[name], start = data[start:heading.start()], heading.end()
         line = data.count(b"\n", 0, heading.start()) + 1
         name = heading.group(1).rstrip(b" \t\r")
         need(name in (b"inputs", b"schedule"), 5, "section: unknown at line %d" % line)
-        need(name not in seen, 5, "section: twice at line %d" % line)
-        seen.add(name)
-    return data[:end]
+        need(name not in texts, 5, "section: twice at line %d" % line)
+    texts[name] = data[start:]
+    return {b"inputs": b"", b"schedule": b"", **texts}
+
+
+def lines_of(text):
+    lines = text.split(b"\n")
+    return lines if lines[-1] else lines[:-1]
+
+
+# ---------------------------------------------------------------- Inputs
+INPUTS_LINE = re.compile(rb"(%s):[ \t\r]*((?:-?[0-9]+(?:[ \t\r]+-?[0-9]+)*)?)[ \t\r]*" % schedules.PATH)
+
+
+def read_inputs(lines):
+    """The list of numbers of each path that has a line."""
+    inputs = {}
+    for i, line in enumerate(lines, 1):
+        if not line.strip(b" \t\r") or line.startswith(b"#"):
+            continue
+        found = INPUTS_LINE.fullmatch(line)
+        path = found and schedules.path_of(found.group(1))
+        need(path, 5, "inputs: bad line %d" % i)
+        numbers = [value(n.lstrip(b"-")) * (-1 if n.startswith(b"-") else 1) for n in found.group(2).split()]
+        need(all(-2 ** 63 <= n < 2 ** 63 for n in numbers), 5, "inputs: bad line %d" % i)
+        need(path not in inputs, 5, "inputs: path twice at line %d" % i)
+        inputs[path] = numbers
+    return inputs
 
 
 # ---------------------------------------------------------------- Tokens
@@ -468,9 +532,9 @@ class Reader:
         if self.peek() == "name":
             place = self.tokens[self.i].place
             return ("name", place, self.variable(scope))
-        kind, _, place = self.next()
+        kind, text, place = self.next()
         if kind in ("number", "true", "false"):
-            return (kind, place)
+            return (kind, place, text)
         sum_type = None
         if kind in ("inl", "inr"):
             self.skip("[")

@@ -77,10 +77,14 @@ some_finished (t ∷ ts) rs e = go (outcome_in t.state.phase) (records_of ts) (s
     go (Some o) None k h = absurd (none-some rs h)
     go (Some o) (Some es) k h = ((o, refl), k es refl)
 
+-- where each has ended they are the records of the configuration
+pub told_records : (job : Job) (ss : List SlotFields) (c : AreSlots job ss) (rs : List Entry) → Some rs ≡ records_from ss → records_of c.threads ≡ Some rs
+told_records job ss c rs e = sym (records_stand job.program ss c.threads (all_stand job.program ss c.threads c.reads)) ∙ sym e
+
 pub are_records : (job : Job) (ss : List SlotFields) (c : AreSlots job ss) (o : Option (List Entry)) → o ≡ records_from ss → AreRecords job c.threads o
 are_records job ss c None e = λ f. finished_some c.threads f (sym (records_stand job.program ss c.threads (all_stand job.program ss c.threads c.reads)) ∙ sym e)
 are_records job ss c (Some rs) e =
-    let is : records_of c.threads ≡ Some rs = sym (records_stand job.program ss c.threads (all_stand job.program ss c.threads c.reads)) ∙ sym e in
+    let is : records_of c.threads ≡ Some rs = told_records job ss c rs e in
     (some_finished c.threads rs is, is, λ n l. agree is n l)
   where
     agree : records_of c.threads ≡ Some rs → (n : ℕ) → work rs ≤ n → meaning job n ≡ Finished rs

@@ -1,7 +1,7 @@
 //! The threads of a job so far.
 
-ghost use Rattle.std.specs.Prelude.{◌≡◌, ◌↔◌, ◌<◌, ◌≤◌, ◌+◌, ◌++◌, ◌∷◌, [], IfOk, IfErr, OnOk, OnErr, List, ℕ, Some, None, true, not, length, map};
-ghost use Rattle.std.specs.List.{HoldsAt, insert};
+ghost use Rattle.std.specs.Prelude.{◌≡◌, ◌↔◌, ◌<◌, ◌≤◌, ◌+◌, ◌++◌, ◌∷◌, [], IfOk, IfErr, IfSome, OnOk, OnErr, List, ℕ, Some, None, true, not, length, map};
+ghost use Rattle.std.specs.List.{All, HoldsAt, insert};
 ghost use Rattle.std.specs.Vec.{vec_len, vec_capacity};
 ghost use Rattle.std.specs.Option.{is_some, option_copied, option_map};
 ghost use Rattle.std.specs.Ordering.{nat_cmp, is_lt};
@@ -15,6 +15,7 @@ ghost use Rattle.core_steps.specs.Locals.{IsFed, IsLocal, MovesTo, ended_with, r
 ghost use Rattle.core_steps.specs.Config.{begin, IsFinished};
 ghost use Rattle.core_steps.specs.Configs.{Advances, AreRecords, AreSlots, IsConfig, IsEnded, IsHanded, IsReady, IsTold, IsWait, JoinsAt, SlotsRise, StepsAt, Stops, all_end, entry_from, outcome_of, read_slot, records_from, slot_added, slot_at, slots_of, threads_of, with_slot};
 ghost use Rattle.core_steps.specs.declared.config.Slot.{Slot as TheSlot};
+ghost use Rattle.core_steps.specs.Laws.{HasGraph, IsChecked};
 ghost use Rattle.core_steps.specs.Moves.{job_of};
 ghost use Rattle.core_steps.specs.Steps.{Job as TheJob};
 
@@ -146,10 +147,13 @@ impl Config {
         }
     }
 
-    /// The records, which are those of the serial meaning; None exactly where some thread has not ended.
+    /// The records, which are those of the serial meaning; None exactly where some thread has not ended. Those of a checked job have
+    /// declared priorities and a graph.
     pub fn records(&self, alloc: Global) -> Result<Option<Records>, AllocError>
         requires { (job : TheJob) × IsConfig job self.now }
-        ensures { IfOk result (λ r. (job : TheJob) → (is : IsConfig job self.now) → AreRecords job is.threads (option_map (map read_record) r)) }
+        ensures told { IfOk result (λ r. (job : TheJob) → (is : IsConfig job self.now) → AreRecords job is.threads (option_map (map read_record) r)) }
+        ensures declared { IfOk result (λ r. IfSome r (λ rs. (job : TheJob) → IsConfig job self.now → IsChecked job → All (λ (x : TheRecord). x.prio < length job.program.names) rs)) }
+        ensures graph { IfOk result (λ r. IfSome r (λ rs. (job : TheJob) → IsConfig job self.now → IsChecked job → HasGraph job (map read_record rs))) }
     {
         match records_of(alloc, &self.threads)? {
             Some(list) => Ok(Some(Records::of(list))),

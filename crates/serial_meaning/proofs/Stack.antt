@@ -1,5 +1,5 @@
 -- The serial run: the last of the threads that have not ended goes on, its step keeps the list, and the end or the limit tells the meaning.
-use Rattle.std.proofs.Common.{◌≡◌, ◌≢◌, ℕ, ◌+◌, ◌<◌, ◌≤◌, List, [], ◌∷◌, ◌++◌, Option, Some, None, length, ◌⊎◌, inl, inr, refl, sym, ◌∙◌, ap, subst, arith, length-append}
+use Rattle.std.proofs.Common.{◌≡◌, ◌≢◌, ℕ, ◌+◌, ◌^◌, ◌<◌, ◌≤◌, List, [], ◌∷◌, ◌++◌, Option, Some, None, length, ◌⊎◌, inl, inr, refl, sym, ◌∙◌, ap, subst, arith, length-append}
 use Rattle.std.specs.Prelude.{Result, Ok, Err, OnOk}
 use Rattle.std.specs.Option.{option_and_then}
 use Rattle.std.specs.List.{AllByRecursion}
@@ -11,6 +11,8 @@ use Rattle.priml_syntax.specs.declared.event.Event.TheVariants.{Start, Plain, Sp
 use Rattle.priml_syntax.specs.Values.{Outcome', Entry}
 use Rattle.priml_syntax.specs.Paths.{Before, child_path}
 use Rattle.priml_syntax.specs.Events.{spawns, one_spawn}
+use Rattle.priml_syntax.specs.Records.{work}
+use Rattle.cost_graph.specs.Records.{AreFinished, parts_of}
 use Rattle.core_steps.specs.Steps.{Job, outcome_in}
 use Rattle.core_steps.specs.Config.{Thread, thread_at, after, chosen, followed, begin, Reached, ReachedIn, IsFinished, WaitsOn, records_of}
 use Rattle.core_steps.specs.Configs.{SlotFields, threads_from, AreSlots, AreRecords, Advances}
@@ -343,6 +345,13 @@ told_at_end job n limit ss c is rs l told =
 
 pub none_at_end : (job : Job) (n : ℕ) (ss : List SlotFields) (c : Serial job n ss []) (is : AreSlots job ss) → AreRecords job is.threads None → ⊥
 none_at_end job n ss c is told = told (subst IsFinished (same_Some c.threads is.threads (sym c.reads ∙ is.reads)) (all_ended job n ss c))
+
+-- below 2 ^ 32 steps the records are those of a finished job
+pub finished_below : (job : Job) → IsChecked job → (limit : ℕ) (rs : List Entry) → meaning job limit ≡ Finished rs → limit < 2 ^ 32 → AreFinished (parts_of rs)
+finished_below job checked limit rs e l =
+    let laws : CheckedLaws job = checked_laws job checked in
+    let within : work rs ≤ limit = (laws.bounded.never_longer (begin job) rs limit (core_laws job).starts.reached e).1 in
+    (laws.graphs.meant rs limit e).finished (omega (arith, within, l))
 
 -- what an answer promises may be weakened
 pub on_ok : {X E : Type 0} (r : Result X E) (P Q : Type 0) → (P → Q) → OnOk r P → OnOk r Q

@@ -1,10 +1,13 @@
 //! The serial meaning of a job, by the threads that have not ended.
 
-ghost use Rattle.std.specs.Prelude.{◌≡◌, ◌<◌, ◌≤◌, ◌+◌, ◌++◌, [], ◌∷◌, ℕ, map, length, IfOk, OnOk, Err};
+ghost use Rattle.std.specs.Prelude.{◌≡◌, ◌<◌, ◌≤◌, ◌^◌, ◌+◌, ◌++◌, [], ◌∷◌, ℕ, map, length, IfOk, OnOk, Err};
+ghost use Rattle.std.specs.List.{All};
 ghost use Rattle.std.specs.Vec.{vec_len};
 ghost use Rattle.priml_syntax.specs.Read.{read_record};
+ghost use Rattle.priml_syntax.specs.declared.record.Record.{Record as TheRecord};
+ghost use Rattle.cost_graph.specs.Records.{AreFinished, parts_in};
 ghost use Rattle.core_steps.specs.Configs.{Advances, IsConfig, slots_of};
-ghost use Rattle.core_steps.specs.Laws.{IsChecked};
+ghost use Rattle.core_steps.specs.Laws.{HasGraph, IsChecked};
 ghost use Rattle.core_steps.specs.Meaning.{meaning as the_meaning, Finished, Over};
 ghost use Rattle.core_steps.specs.Moves.{job_of};
 ghost use Rattle.serial_meaning.specs.Serial.{Serial, GoesOnAt, MaySpawn, left_of};
@@ -41,11 +44,16 @@ pub(crate) struct Active {
     children: u32,
 }
 
-/// The records of the serial meaning of a job. `Over` comes exactly where the work exceeds the limit.
+/// The records of the serial meaning of a job, whose priorities are declared and whose graph has no cycle and is well formed. Below a
+/// limit of 2^32 they are what `Graph::of_records` asks for. `Over` comes exactly where the work exceeds the limit.
 pub fn meaning(alloc: Global, job: &Job, limit: u64) -> Result<Records, MeaningStop>
     ensures ok { IfOk result (λ r. the_meaning (job_of job.now) limit ≡ Finished (map read_record r)) }
     ensures over { result ≡ Err MeaningStop.Over → the_meaning (job_of job.now) limit ≡ Over }
+    ensures declared { IfOk result (All (λ (r : TheRecord). r.prio < length (job_of job.now).program.names)) }
+    ensures graph { IfOk result (λ r. HasGraph (job_of job.now) (map read_record r)) }
+    ensures finished { limit < 2 ^ 32 → IfOk result (λ r. AreFinished (parts_in r)) }
 {
+    check(job);
     let mut config = Config::start(alloc, job)?;
     let mut active = first(alloc)?;
     run(&mut config, &mut active, alloc, job, limit)?;

@@ -1,19 +1,33 @@
-use Rattle.std.proofs.Common.{Some, None, map, sym, ◌∙◌, ap}
+use Rattle.std.proofs.Common.{◌≡◌, Some, None, length, map, sym, ◌∙◌, ap}
 use Rattle.std.specs.Option.{option_map}
 use Rattle.std.specs.declared.vec.Vec.{Vec}
 use Rattle.std.specs.declared.alloc.Global.{Global}
 use Rattle.priml_syntax.specs.declared.record.Record.{Record}
 use Rattle.priml_syntax.specs.Read.{read_record}
 use Rattle.core_steps.specs.Configs.{read_slot, records_from, slots_of}
-use Rattle.core_steps.proofs.Recorded.{records_in_order, are_records}
+use Rattle.core_steps.proofs.CheckedLaws.{checked_laws}
+use Rattle.core_steps.proofs.DeclaredPrios.{all_declared}
+use Rattle.core_steps.proofs.Recorded.{records_in_order, are_records, told_records}
 use Rattle.core_steps.proofs.config.Config.records.Goals as goal
 
 pub of-requires : goal.of-requires
 of-requires c = records_in_order c.requires.0 (slots_of c.args.self.now) (map read_record c.in-Some.list.items) c.requires.1 (ap (option_map (λ (v : Vec Record Global). map read_record v.items)) (sym c.in-Some.is) ∙ (c.in_ok-list.ensures ∙ ap (λ xs. records_from (map read_slot xs)) c.deref.ensures.value))
 
-pub returns-in-Some : goal.returns-in-Some
-returns-in-Some c = λ job is. are_records job (slots_of c.args.self.now) is (Some (map read_record c.of.result)) (ap (λ rs. Some (map read_record rs)) c.of.ensures ∙ (ap (option_map (λ (v : Vec Record Global). map read_record v.items)) (sym c.in-Some.is) ∙ (c.in_ok-list.ensures ∙ ap (λ xs. records_from (map read_slot xs)) c.deref.ensures.value)))
+pub returns-in-Some-clause-told : goal.returns-in-Some-clause-told
+returns-in-Some-clause-told c = λ job is. are_records job (slots_of c.args.self.now) is (Some (map read_record c.of.result)) (ap (λ rs. Some (map read_record rs)) c.of.ensures ∙ (ap (option_map (λ (v : Vec Record Global). map read_record v.items)) (sym c.in-Some.is) ∙ (c.in_ok-list.ensures ∙ ap (λ xs. records_from (map read_slot xs)) c.deref.ensures.value)))
 
-pub returns-in-None : goal.returns-in-None
-returns-in-None c = λ job is. are_records job (slots_of c.args.self.now) is None
+pub returns-in-Some-clause-declared : goal.returns-in-Some-clause-declared
+returns-in-Some-clause-declared c =
+    let are : Some (map read_record c.of.result) ≡ records_from (slots_of c.args.self.now) =
+    ap (λ rs. Some (map read_record rs)) c.of.ensures ∙ (ap (option_map (λ (v : Vec Record Global). map read_record v.items)) (sym c.in-Some.is) ∙ (c.in_ok-list.ensures ∙ ap (λ xs. records_from (map read_slot xs)) c.deref.ensures.value)) in
+    λ job is checked. all_declared (length job.program.names) c.of.result ((checked_laws job checked).prios.reached is.threads (map read_record c.of.result) is.reached (told_records job (slots_of c.args.self.now) is (map read_record c.of.result) are))
+
+pub returns-in-Some-clause-graph : goal.returns-in-Some-clause-graph
+returns-in-Some-clause-graph c =
+    let are : Some (map read_record c.of.result) ≡ records_from (slots_of c.args.self.now) =
+    ap (λ rs. Some (map read_record rs)) c.of.ensures ∙ (ap (option_map (λ (v : Vec Record Global). map read_record v.items)) (sym c.in-Some.is) ∙ (c.in_ok-list.ensures ∙ ap (λ xs. records_from (map read_slot xs)) c.deref.ensures.value)) in
+    λ job is checked. (checked_laws job checked).graphs.reached is.threads (map read_record c.of.result) is.reached (told_records job (slots_of c.args.self.now) is (map read_record c.of.result) are)
+
+pub returns-in-None-clause-told : goal.returns-in-None-clause-told
+returns-in-None-clause-told c = λ job is. are_records job (slots_of c.args.self.now) is None
     (ap (option_map (λ (v : Vec Record Global). map read_record v.items)) (sym c.in-None.is) ∙ (c.in_ok-list.ensures ∙ ap (λ xs. records_from (map read_slot xs)) c.deref.ensures.value))

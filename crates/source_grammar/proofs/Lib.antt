@@ -1,6 +1,7 @@
 pub mod BlockForms
 pub mod BlockSteps
 pub mod CommaLists
+pub mod EveryList
 pub mod Forms
 pub mod HeadForms
 pub mod HeadSteps

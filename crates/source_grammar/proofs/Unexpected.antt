@@ -56,7 +56,7 @@ at_token before r t h =
       none = no_program h;
     }
 
-placed : (ts before r : List Token) (n : ℕ) → ts ≡ before ++ r → n ≡ length before → halt (Program ∷ []) ts ≡ Some r → IsUnexpected ts n
+pub placed : (ts before r : List Token) (n : ℕ) → ts ≡ before ++ r → n ≡ length before → halt (Program ∷ []) ts ≡ Some r → IsUnexpected ts n
 placed ts before [] n e l h = let m : n ≡ length ts = omega (arith, ap length e, length-append before []) in rw m (at_end ts h)
 placed ts before (t ∷ r) n e l h = rw (e, l) (at_token before r t (rw e at h))
 

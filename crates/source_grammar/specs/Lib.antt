@@ -2,6 +2,7 @@ pub mod Ends
 pub mod Faults
 pub mod Grammar
 pub mod Joined
+pub mod Laws
 pub mod Lists
 pub mod Machine
 pub mod Next

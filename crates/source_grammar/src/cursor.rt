@@ -57,19 +57,17 @@ impl<'a> Tokens<'a> {
     pub fn new(runs: &'a [Vec<Token>]) -> Tokens<'a>
         ensures { result ≡ joined runs.now }
     {
-        match runs.split_first() {
-            None => Tokens {
-                rest: &[],
-                later: runs,
-            },
-            Some((run, later)) => {
-                if run.is_empty() {
-                    Tokens::new(later)
-                } else {
-                    Tokens { rest: run, later }
-                }
+        let mut later = runs;
+        while let Some((run, behind)) = later.split_first() {
+            if !run.is_empty() {
+                return Tokens {
+                    rest: run,
+                    later: behind,
+                };
             }
+            later = behind;
         }
+        Tokens { rest: &[], later }
     }
 
     /// The next token, which stays.

@@ -7,9 +7,11 @@ mod choice;
 mod cursor;
 mod expr;
 mod head;
+mod laws;
 mod list;
 mod program;
 pub mod raw;
 mod ty;
 
+pub use laws::grammar_laws;
 pub use program::{ParseStop, parse};

@@ -7,6 +7,7 @@ ghost use Rattle.source_grammar.specs.Machine.{Main, Order, Priority, Program, d
 ghost use Rattle.source_grammar.specs.RawRead.{read_decl, read_main, read_raw};
 ghost use Rattle.source_grammar.specs.RawTree.{RawTree};
 ghost use Rattle.source_grammar.specs.Stops.{Moves, MovesAll, MovesTo};
+ghost use Rattle.source_tokens.specs.Laws.{AreShallow};
 ghost use Rattle.source_tokens.specs.Runs.{joined};
 
 use crate::choice::DeclarationForm;
@@ -26,8 +27,9 @@ pub enum ParseStop {
     OutOfMemory,
 }
 
-/// The tree of a text's tokens, which are in runs. It is the only one.
+/// The tree of a text's tokens, which are in runs. It is the only one. The calls nest as deep as the brackets, of which few are open.
 pub fn parse(alloc: Global, runs: &[Vec<Token>]) -> Result<RawProgram, ParseStop>
+    requires { AreShallow 0 (joined runs.now) }
     ensures program { IfOk result (λ p. IsProgram (joined runs.now) (read_raw p)) }
     ensures only { IfOk result (λ p. (q : RawTree) → IsProgram (joined runs.now) q → q ≡ read_raw p) }
     ensures none { IfErr result (Refuses (joined runs.now)) }

@@ -34,24 +34,25 @@ def answer(words, data, built=None):
         command, *numbers = look_at_words(words, built or BUILT)
         need(len(data) <= 4194304, 7, "limit: input")
         sections = sections_of(data)
-        reader = Reader(right_tokens(sections[b"program"]))
-        pairs, procedures, main = reader.program()
-        type_program(pairs, procedures, main)
-        if command == b"check":
-            return 0, b"ok\n"
-        job = steps.Job(procedures, main, read_inputs(lines_of(sections[b"inputs"])))
-        lines = report(command, numbers, job, schedules.Order(reader.priorities, pairs), lines_of(sections[b"schedule"]))
+        order, procedures, main = typed_program(sections[b"program"])
+        lines = ["ok"]
+        if command != b"check":
+            job = steps.Job(procedures, main, read_inputs(lines_of(sections[b"inputs"])))
+            lines = told(command, numbers, records_within(numbers[-1], job), order, lines_of(sections[b"schedule"]))
     except Refused as end:
         return end.args[0], end.args[1].encode() + b"\n"
     return 0, "".join(line + "\n" for line in lines).encode()
 
 
-def report(command, numbers, job, order, schedule_lines):
-    """The lines of each command but `check`. The step limit is the last number, the cores the one before it."""
+def records_within(limit, job):
     try:
-        records = job.records_within(numbers[-1])
+        return job.records_within(limit)
     except steps.PastLimit:
         raise Refused(7, "limit: steps")
+
+
+def told(command, numbers, records, order, schedule_lines):
+    """The lines of each command but `check`. The cores are the first of two numbers."""
     if command == b"serial":
         return steps.run_text(records)
     graph = schedules.Graph(records, order)
@@ -586,6 +587,14 @@ def under(t, priorities):
     if t[0] == "priority":
         return t
     return (t[0],) + tuple(under(part, priorities) for part in t[1:])
+
+
+def typed_program(text):
+    """The order of priorities, the procedures and `main` of a text that stands for a typable program."""
+    reader = Reader(right_tokens(text))
+    pairs, procedures, main = reader.program()
+    type_program(pairs, procedures, main)
+    return schedules.Order(reader.priorities, pairs), procedures, main
 
 
 def type_program(pairs, procedures, main):

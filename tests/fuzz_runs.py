@@ -1,0 +1,350 @@
+"""Random words and inputs for the commands that run a program, for tests/fuzz.py: programs that mostly end, with inputs; limits
+at the work; inputs that are wrong; and for `judge` schedules that are prompt, that have a flaw, that are changed, or no text
+of one. A case is a list of words and an input, both bytes."""
+import collections
+
+import model
+import model_schedules as schedules
+import model_steps as steps
+from fuzz_programs import LARGE, Typed, above, calls, edge, spaced, walk
+from fuzz_programs import about_limits, typed, wrong_choice, wrong_name
+
+
+# ---------------------------------------------------------------- words
+def words(r, command, limits):
+    cores = b"%d" % r.choice([1, 1, 1, 2, 2, 2, 3, 3, 4, 5, 8, 16, 1023, 1024])
+    return [command] + [cores] * (command not in (b"serial", b"graph")) + [b"%d" % max(1, min(100000, r.choice(limits)))]
+
+
+def any_command(r, commands):
+    return r.choice(sorted(commands))
+
+
+# ---------------------------------------------------------------- runs
+class Run:
+    """What a model knows of a typable program with right inputs, whose run has at most 2,000 steps."""
+
+    def __init__(self, data):
+        sections = model.sections_of(data)
+        self.order, procedures, main = model.typed_program(sections[b"program"])
+        job = steps.Job(procedures, main, model.read_inputs(model.lines_of(sections[b"inputs"])))
+        self.records = job.records_within(2000)
+        self.work = sum(len(record.events) for record in self.records)
+        self.graph = schedules.Graph(self.records, self.order)
+
+
+def run_of(data):
+    try:
+        return Run(data)
+    except (model.Refused, steps.PastLimit):
+        return None
+
+
+# ---------------------------------------------------------------- programs
+def tree(r):
+    """A tree of threads at a few priorities, with joins of those that may be waited for: much that is ready at once."""
+    names = list("abcd")[:r.randrange(1, 5)]
+    pairs = [tuple(sorted(r.sample(names, 2))) for _ in range(r.randrange(4))] if len(names) > 1 else []
+    r.shuffle(names)
+    left = r.choice([5, 10, 20, 30])
+
+    def block(own, scope, depth):
+        nonlocal left
+        binds, scope = "", list(scope)
+        for _ in range(r.randrange(1, 6)):
+            kind, name = r.random(), "n%d" % len(scope)
+            threads = [(x, p) for x, p in scope if p and model.is_at_most(pairs, own, p)]
+            if kind < 0.45 and depth > 0 and left > 0 and len(scope) < 20:
+                left -= 1
+                p = above(r, pairs, own) if r.random() < 0.5 else r.choice(names)
+                binds += "%s <- spawn [ %s ] %s ; " % (name, p, block(p, scope, depth - 1))
+                scope.append((name, p))
+            elif kind < 0.7 and threads:
+                binds += "%s <- sync %s ; " % (name, r.choice(threads)[0])
+                scope.append((name, None))
+            else:
+                binds += "%s <- %s ; " % (name, r.choice(["ret 1", "ret ( 7 / 2 )", "ret ( 1 % 0 )"] if kind > 0.97 else ["ret 1"]))
+                scope.append((name, None))
+        return "{ %s ret 1 }" % binds
+    own = r.choice(names)
+    text = "".join("priority %s ; " % x for x in names) + "".join("order %s < %s ; " % pair for pair in pairs)
+    return (text + "main at %s : int %s" % (own, block(own, [], 4))).split()
+
+
+def deep(r):
+    """Paths of about 32 parts, by recursion; what is joined may be a fault."""
+    base = r.choice(["ret k", "ret ( 1 / k )", "x <- output k ; ret ( %s + 1 )" % LARGE])
+    after = r.choice(["x <- sync h ; ret x", "x <- sync h ; o <- output x ; ret ( x + 1 )", "ret k", "if ( k < 20 ) { x <- sync h ; ret x } else { ret 0 }"])
+    return ("priority p ; proc f ( k : int ) at p : int { if ( k < 1 ) { %s } else { h <- spawn [ p ] { x <- call f ( ( k - 1 ) ) ; ret x } ; %s } } "
+            "main at p : int { %s x <- call f ( %d ) ; ret x }" % (base, after, r.choice(["", "o <- output 1 ;", "h <- spawn [ p ] { x <- call f ( 31 ) ; ret x } ;"]),
+                                                              r.randrange(29, 35))).split()
+
+
+def arithmetic(r):
+    """One expression of numbers at the ends of their range, written and given back."""
+    def number(depth):
+        kind = r.random()
+        if depth == 0 or kind < 0.2:
+            return r.choice(["0", "1", "2", "7", "007", LARGE, "( 0 - %s )" % LARGE, "( ( 0 - %s ) - 1 )" % LARGE, "( 0 - 1 )", "( 0 - 7 )", "4611686018427387904", "3037000500"])
+        return "( %s %s %s )" % (number(depth - 1), r.choice("+-*/%"), number(depth - 1))
+
+    def test(depth):
+        if depth == 0 or r.random() < 0.3:
+            return "( %s %s %s )" % (number(1), r.choice(["<", "<=", "=="]), number(1))
+        return r.choice(["not ( %s )" % test(depth - 1), "( %s %s %s )" % (test(depth - 1), r.choice(["and", "or"]), test(depth - 1))])
+    return ("priority p ; proc f ( a : int , b : bool ) at p : int { o <- output a ; if b { ret a } else { ret 0 } } "
+            "main at p : ( int * bool ) { h <- spawn [ p ] { x <- call f ( %s , %s ) ; ret x } ; o <- output %s ; x <- sync h ; ret ( x , %s ) }"
+            % (number(2), test(1), number(2), test(2))).split()
+
+
+def running(r):
+    kind = r.random()
+    tokens = Typed(r, ends=True).program().split() if kind < 0.5 else [tree, tree, deep, arithmetic][r.randrange(4)](r)
+    return spaced(r, tokens)
+
+
+# ---------------------------------------------------------------- inputs
+PATHS = ["0", "0", "0", "0.0", "0.1", "0.2", "0.0.0", "0.1.0", "0.10", "0.4294967295", "0" + ".0" * 31]
+NUMBERS = ["0", "-0", "5", "-6", "007", "-007", LARGE, "-9223372036854775808", "1", "2", "3", "-1"]
+BLANKS = [" ", " ", "  ", "\t", " \t", "\r"]
+BAD_INPUTS = ["1: 5", "0: 5x", " 0: 5", "0 : 5", "00: 5", "0.: 1", ".0: 1", "0..0: 1", "0: +5", "0: --5", "0: 5-6", "0: -", "0:5,6", "0", "0;5", ":5", "-0: 1",
+              "0: 9223372036854775808", "0: -9223372036854775809", "0: " + "9" * 40, "0.4294967296: 1", "0.42949672960: 1", "0" + ".0" * 32 + ": 1", "0: 5 # x",
+              " # x", "\x0b", "0:\x0c5", "\xef\xbb\xbf0: 1", "0:5\x00", "0: 5.0", "0.01: 5", "0: 0x5", "\t0: 5", "0:: 5", "= 0: 5", "0:5\xa0", "==="[:2]]
+
+
+def blanks(r, least):
+    return "".join(r.choice(BLANKS) for _ in range(max(least, r.choice([0, 0, 1]))))
+
+
+def input_lines(r):
+    lines = []
+    for path in sorted(set(r.choice(PATHS) for _ in range(r.randrange(5))), key=lambda _: r.random()):
+        numbers = [r.choice(NUMBERS) for _ in range(r.randrange(5))]
+        lines.append(path + ":" + blanks(r, 0) + "".join(n + blanks(r, 1) for n in numbers[:-1]) + "".join(numbers[-1:]) + blanks(r, 0))
+        lines += r.choice([[], [], [], ["# 0: 5x"], [""], [" \t\r"]])
+    return lines
+
+
+def section(r, name, lines):
+    """A section with these lines; the last of them may lack its line feed where nothing follows."""
+    return ["===" + name + r.choice(["", "", " ", "\r", "\t "])] + lines
+
+
+def joined(r, data, *sections):
+    lines = [line for one in sections for line in one]
+    end = b"" if lines and lines[-1] and r.random() < 0.2 else b"\n"
+    return data + (b"" if data.endswith(b"\n") else b"\n") + "\n".join(lines).encode("latin-1") + end if lines else data
+
+
+def with_inputs(r):
+    return joined(r, running(r), section(r, "inputs", input_lines(r)) if r.random() < 0.7 else [])
+
+
+# ---------------------------------------------------------------- cases without a schedule
+def run(r, commands):
+    """A run with a limit at its work, just below, or far from it. What stands in a schedule is read by `judge` alone."""
+    data = with_inputs(r)
+    found = run_of(data)
+    if r.random() < 0.1:
+        data = joined(r, data, section(r, "schedule", ["0;0"]))
+    work = found.work if found else 300
+    return words(r, any_command(r, commands), [work, work, work - 1, work + 1, 1, 2000, 100000 if found else 2000]), data
+
+
+def faulty(r, commands):
+    """Texts that are mostly no program or not typable; what is one runs within a small limit."""
+    data = r.choice([typed, wrong_choice, wrong_choice, wrong_name, about_limits, edge, walk, calls])(r)[1]
+    for _ in range(r.choice([0, 0, 0, 1, 2, 2])):
+        data = joined(r, data, section(r, r.choice(["inputs", "inputs", "schedule", "input", "="]), [r.choice(["0;0", "0: x", "0: 5"])]))
+    return words(r, any_command(r, commands), [1, 10, 300, 1000]), data
+
+
+def bad_inputs(r, commands):
+    """One or two lines that are wrong, or a path twice; or a run with too many steps beside it."""
+    lines = input_lines(r)
+    for _ in range(r.choice([1, 1, 2])):
+        again = [line for line in lines if line[:1] == "0"]
+        line = r.choice(again) if again and r.random() < 0.5 else r.choice(BAD_INPUTS + ["0: 1", "0:", "0.0:"])
+        lines.insert(r.randrange(len(lines) + 1), line)
+    return words(r, any_command(r, commands), [1, 300, 2000]), joined(r, running(r), section(r, "inputs", lines))
+
+
+def large(r, commands):
+    """A report of many threads, past the limit by far; for `judge` the canonical plan, perhaps with a blank line in it."""
+    n = r.choice([3700, 4000])
+    data = ("priority bg; priority ui; order bg < ui; proc leaf(k : int) at bg : int { u <- output (k * k); ret (k % 7) } proc chain(k : int) at bg : int { if (k < 1) "
+            "{ ret 0 } else { h <- spawn[bg] { x <- call leaf(k); ret x }; r <- call chain((k - 1)); v <- sync h; ret (r + v) } } "
+            "main at ui : int { h <- spawn[bg] { x <- call chain(N); ret x }; u <- output N; ret N }\n".replace("N", str(n))).encode()
+    command = r.choice(sorted(commands & {b"report", b"judge"}) * 2 + [b"judge"] * (b"judge" in commands) or sorted(commands))
+    given = words(r, command, [100000, 100000, 10 * n + 9, 10 * n + 9, 10 * n + 8])
+    if command == b"judge":
+        lines = model.answer([b"plan"] + given[1:], data)[1].decode().split("\n")[:-1]
+        if r.random() < 0.2:
+            lines.insert(r.choice([len(lines) // 2, 0]), "")
+        data = joined(r, data, section(r, "schedule", lines))
+    return given, data
+
+
+# ---------------------------------------------------------------- schedules
+def prompt(r, graph, cores):
+    """Any prompt schedule."""
+    waits = {v: len(parents) for v, parents in graph.parents.items()}
+    ready, steps_ = [v for v in waits if waits[v] == 0], []
+    while ready:
+        left, step = sorted(ready, key=lambda _: r.random()), []
+        while left and len(step) < cores:
+            v = next(v for v in left if not any(graph.order.below(graph.priority[v], graph.priority[u]) for u in left))
+            step.append(v)
+            left.remove(v)
+        for v in step:
+            for child in graph.children[v]:
+                waits[child] -= 1
+                if waits[child] == 0:
+                    left.append(child)
+        ready = left
+        steps_.append(sorted(step, key=lambda _: r.random()))
+    return steps_
+
+
+def changed(r, steps_, graph):
+    """One change about a step."""
+    out = [list(step) for step in steps_]
+    i = r.randrange(len(out))
+    j = min(max(0, i + r.choice([-2, -1, 1, 1, 2, 3])), len(out) - 1)
+    a, b = r.randrange(len(out[i])) if out[i] else 0, r.randrange(len(out[j])) if out[j] else 0
+    kind = r.randrange(11)
+    if kind == 0 and out[i] and out[j]:
+        out[i][a], out[j][b] = out[j][b], out[i][a]
+    elif kind == 1 and out[i]:
+        out[j].append(out[i].pop(a))
+    elif kind == 2 and out[i]:
+        out[i].pop(a)
+    elif kind == 3 and out[i]:
+        out[j].insert(b, out[i][a])
+    elif kind == 4:
+        del out[i]
+    elif kind == 5:
+        out.insert(j, list(out[i]))
+    elif kind == 6:
+        out.insert(i, [])
+    elif kind == 7:
+        out[i:i + 1] = [out[i][:a], out[i][a:]]
+    elif kind == 8:
+        out[i], out[j] = out[j], out[i]
+    elif kind == 9:
+        del out[i:]
+    else:
+        out[i].insert(a, r.choice(sorted(graph.priority)))
+    return out
+
+
+def flawed(r, steps_, graph, cores):
+    """A schedule that has at one step the flaw of a kind that is drawn, where that step allows it."""
+    out, kind = [list(step) for step in steps_], r.choice("empty wide twice unready idle inverted inverted unfinished".split())
+    for i in sorted(range(len(out)), key=lambda _: r.random()):
+        done = set(v for step in out[:i] for v in step)
+        later = [v for step in out[i + 1:] for v in step]
+        ready = [v for v in later if done.issuperset(graph.parents[v])]
+        low = [(n, u) for n, v in enumerate(out[i]) for u in ready if graph.order.below(graph.priority[u], graph.priority[v])]
+        if low or kind != "inverted":
+            break
+    step = out[i]
+    if kind == "empty":
+        out.insert(i, [])
+    elif kind == "wide":
+        step += (later + step * (cores + 1))[:cores + 1 - len(step)]
+    elif kind == "twice":
+        step[r.randrange(len(step))] = r.choice(sorted(done) + step)
+    elif kind == "unready" and later:
+        step.insert(r.randrange(len(step) + 1), r.choice(later[:5] + later))
+        del step[cores:]
+    elif kind == "idle":
+        step.pop(r.randrange(len(step)))
+        out[i] = step or [later[0] if later else ((0,), 0)]
+    elif kind == "inverted" and low:
+        n, u = r.choice(low)
+        step[n] = u
+    else:
+        del out[i:]
+    return out
+
+
+BAD_VERTICES = ["0;0", "0:00", "00:0", "1:0", "0:-1", "0:", "0", ":0", "0.:0", "0:0,0:1", "0:4294967296", "0.4294967296:0", "#", "0:0x", "0" + ".0" * 32 + ":0", "0:+1",
+                "# 0:0", "0:0:0", "0:01", "0.00:0", "0:" + "9" * 30, "0:0\x0b", "0:0\xa0", "\x00", "0: 0", "0 :0"]
+UNKNOWN_VERTICES = ["0:9999", "0.77:0", "0.0.0.0.0.9:0", "0:4294967295", "0.4294967295:0", "0" + ".7" * 31 + ":0"]
+
+
+def schedule_lines(r, steps_):
+    between = r.choice([[" "], [" ", "\t", "  ", " \t", "\r"]])
+    around = r.choice([[""], ["", "", " ", "\t", "\r"]])
+    return [r.choice(around) + "".join(schedules.vertex_text(v) + r.choice(between) for v in step[:-1])
+            + "".join(schedules.vertex_text(v) for v in step[-1:]) + r.choice(around) for step in steps_]
+
+
+def judged(r, make, lines=lambda r, lines: lines):
+    """A case of `judge` on the run of a program with at least two threads, mostly."""
+    for _ in range(8):
+        data = with_inputs(r) if r.random() < 0.4 else joined(r, spaced(r, tree(r)), section(r, "inputs", []) if r.random() < 0.2 else [])
+        found = run_of(data)
+        if found and found.work < 400 and len(found.records) > r.choice([0, 1, 1, 3]):
+            break
+    else:
+        data = spaced(r, "priority p ; main at p : int { h <- spawn [ p ] { ret 1 } ; ret 2 }".split())
+        found = run_of(data)
+    given = words(r, b"judge", [found.work, 2000, 100000])
+    text = lines(r, schedule_lines(r, make(found.graph, int(given[1]))))
+    if b"\n===" in data or r.random() < 0.9:
+        return given, joined(r, data, section(r, "schedule", text))
+    return given, joined(r, data, section(r, "schedule", text), section(r, "inputs", input_lines(r)))
+
+
+def promptly(r, _):
+    plans = r.random() < 0.3
+    return judged(r, lambda graph, cores: schedules.plan(graph, cores) if plans else prompt(r, graph, cores))
+
+
+def with_flaw(r, _):
+    return judged(r, lambda graph, cores: flawed(r, prompt(r, graph, cores), graph, cores))
+
+
+def with_change(r, _):
+    def make(graph, cores):
+        found = r.choice([schedules.plan(graph, cores), prompt(r, graph, cores), prompt(r, graph, r.choice([1, 2, 3, cores]))])
+        for _ in range(r.choice([0, 1, 1, 1, 2])):
+            found = changed(r, found, graph) if found else found
+        return found
+    return judged(r, make)
+
+
+def bad_schedule(r, _):
+    def damaged(r, lines):
+        for _ in range(r.choice([1, 1, 2, 2, 3])):
+            i = r.randrange(len(lines)) if lines else 0
+            vertices = lines[i].split(" ") if lines else []
+            vertices.insert(r.randrange(len(vertices) + 1), r.choice(r.choice([BAD_VERTICES, UNKNOWN_VERTICES, UNKNOWN_VERTICES])))
+            lines[i:i + 1] = [" ".join(vertices)]
+        return lines
+    return judged(r, lambda graph, cores: schedules.plan(graph, cores), damaged)
+
+
+# How often each kind of case comes, and the command that it needs.
+GENERATORS = {"run": 36, "faulty": 24, "bad_inputs": 16, "large": 2}
+JUDGED = {"promptly": 8, "with_flaw": 20, "with_change": 16, "bad_schedule": 8}
+
+
+# ---------------------------------------------------------------- what has to be hit
+def answers(command):
+    """The answers, as status and kind of line, that cases of this command have to hit."""
+    found = ["0", "3", "4", "5 section", "5 inputs: bad line", "5 inputs: path twice", "7 limit: steps"]
+    found += ["7 limit: report"] * (command in (b"report", b"judge"))
+    if command == b"judge":
+        found += ["5 schedule: bad text", "5 schedule: unknown vertex"]
+        found += ["6 flaw: " + kind for kind in "empty, wide, twice, not ready, idle, inverted, unfinished".split(", ")]
+    return found
+
+
+def outcomes(output):
+    """How often each kind of outcome stands in a run text."""
+    lines = [line.split() for line in output.decode().split("\n") if line.startswith("thread")]
+    kinds = [line[4:5] + line[5:6] * (line[4] == "fault") for line in lines if len(line) > 4]
+    return collections.Counter(" ".join(kind) for kind in kinds)

@@ -14,4 +14,5 @@ pub mod Spelled
 pub mod Fitting
 pub mod Standing
 pub mod OneFault
+pub mod EveryText
 pub mod Worked

@@ -70,7 +70,7 @@ past ts n none = by (slice_get_cases ts n).1 where
   by (inr h) = h.0
 
 -- all tokens begin some program and are none, and the text stops behind them
-all_before : (ts : List Token) (n : ℕ) → length ts ≤ n → IsUnexpected ts n → Viable (kinds ts)
+pub all_before : (ts : List Token) (n : ℕ) → length ts ≤ n → IsUnexpected ts n → Viable (kinds ts)
 all_before ts n l is = subst (λ v. Viable (kinds v)) (take_all n ts l) is.before
 
 pub stops_behind : (text : List ℕ) (ts : List Token) (ns : List (List ℕ)) (end : Stop) (n : ℕ) (e : SourceFault) → length ts ≤ n → IsUnexpected ts n → stop_fault end ≡ Some e → IsLexed text ts ns end → Refuses text e

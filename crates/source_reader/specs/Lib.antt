@@ -8,4 +8,5 @@ pub mod Bodies
 pub mod Parts
 pub mod Order
 pub mod Stands
+pub mod Laws
 pub mod Written

@@ -4,6 +4,7 @@
 mod block;
 mod declared;
 mod faults;
+mod laws;
 mod list;
 mod names;
 mod once;
@@ -14,4 +15,5 @@ mod term;
 
 pub use faults::{Fault, What};
 pub use inputs_text::{InputFault, read_inputs};
+pub use laws::source_laws;
 pub use reader::{SourceFault, SourceTree, read_source, read_source_with_tree};

@@ -7,6 +7,7 @@ ghost use Rattle.priml_syntax.specs.Tree.{Tree};
 ghost use Rattle.priml_syntax.specs.Read.{read_program};
 ghost use Rattle.priml_syntax.specs.Scoped.{IsScoped};
 ghost use Rattle.source_tokens.specs.Lexes.{IsLexed};
+ghost use Rattle.source_tokens.specs.Laws.{AreShallow};
 ghost use Rattle.source_tokens.specs.Names.{name_bytes};
 ghost use Rattle.source_tokens.specs.Runs.{joined};
 ghost use Rattle.source_grammar.specs.Faults.{IsUnexpected};
@@ -120,6 +121,7 @@ fn whole(
     runs: &[Vec<Token>],
     stop: Stop,
 ) -> Result<RawProgram, SourceFault>
+    requires { AreShallow 0 (joined runs.now) }
     ensures derived { IfOk result (λ raw. IsProgram (joined runs.now) (read_raw raw)) }
     ensures only { IfOk result (λ raw. (q : RawTree) → IsProgram (joined runs.now) q → q ≡ read_raw raw) }
     ensures done { IfOk result (λ raw. stop ≡ Stop.Done) }

@@ -1,1 +1,10 @@
 pub mod Flat
+pub mod Typed
+pub mod Numbers
+pub mod Evaluations
+pub mod Leaf
+pub mod Leaves
+pub mod Chain
+pub mod Records
+pub mod Runs
+pub mod Source

@@ -1,1 +1,4 @@
 pub mod Text
+pub mod Tree
+pub mod Runs
+pub mod Source

@@ -1,6 +1,7 @@
 ghost use Rattle.std.specs.Prelude.{◌≡◌, ◌≤◌, ◌++◌, IfOk, OnOk};
 ghost use Rattle.std.specs.String.{string_bytes};
 ghost use Rattle.source_maker.specs.Text.{text_of, declaration_lines, leaf_lines, chain_lines, main_lines, made_text};
+ghost use Rattle.source_maker.specs.Source.{IsSource};
 
 use std::alloc::{AllocError, Global};
 use std::fmt::Write;
@@ -10,7 +11,8 @@ use std::fmt::Write;
 pub fn make(alloc: Global, n: u32) -> Result<Vec<u8>, AllocError>
     requires some { 1 ≤ n }
     requires few { n ≤ 5000 }
-    ensures { IfOk result (λ v. v.items ≡ made_text n) }
+    ensures text { IfOk result (λ v. v.items ≡ made_text n) }
+    ensures program { IsSource n }
 {
     let mut text = String::new(alloc);
     push_declarations(&mut text)?;

@@ -1,0 +1,5 @@
+mod Events
+mod States
+mod Steps
+mod Runs
+mod Pieces

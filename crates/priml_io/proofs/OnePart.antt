@@ -4,12 +4,12 @@ use Rattle.std.proofs.Math.Seq.{drop-append_seam}
 use Rattle.std.proofs.lemmas.List.{drop-append-le, take-append-drop}
 use Rattle.std.proofs.lemmas.List.Elements.{All-head, All-tail, All-drop}
 use Rattle.priml_io.specs.Lines.{lines, lines_from}
-use Rattle.priml_io.specs.Sections.{IsMarked, IsRow, IsWhole, IsPart, IsSection}
+use Rattle.priml_io.specs.Sections.{IsMarked, IsRow, IsWhole, IsPart}
 use Rattle.priml_io.proofs.LinesLemmas.{lines-append}
 use Rattle.priml_io.proofs.SectionsLemmas.{marked-append}
 
 -- of two texts that begin one text, one begins the other
-two_fronts : (a b c d : List ℕ) → a ++ b ≡ c ++ d → ((more : List ℕ) × (c ≡ a ++ more) × (b ≡ more ++ d)) ⊎ ((more : List ℕ) × (a ≡ c ++ more) × (d ≡ more ++ b))
+pub two_fronts : (a b c d : List ℕ) → a ++ b ≡ c ++ d → ((more : List ℕ) × (c ≡ a ++ more) × (b ≡ more ++ d)) ⊎ ((more : List ℕ) × (a ≡ c ++ more) × (d ≡ more ++ b))
 two_fronts [] b c d e = inl (c, refl, e)
 two_fronts (x ∷ a) b [] d e = inr (x ∷ a, refl, sym e)
 two_fronts (x ∷ a) b (y ∷ c) d e =
@@ -66,7 +66,7 @@ marked-line text m all =
 marked-alone : (text after : List ℕ) → after ≡ [] → IsMarked (text ++ after) → IsMarked text
 marked-alone text after e m = rw (e, append-nil text) at m
 
-rest-all : (P : List ℕ → Type 0) (front rest : List (List ℕ)) → All P (front ++ rest) → All P rest
+pub rest-all : (P : List ℕ → Type 0) (front rest : List (List ℕ)) → All P (front ++ rest) → All P rest
 rest-all P front rest all = rw drop-append_seam at (All-drop P (length front) (front ++ rest) all)
 
 -- where a part ends, no longer part ends
@@ -128,10 +128,3 @@ one_row bytes line after bytes' line' after' e row row' = go row.ended row'.ende
   go (inr p) (inr q) =
       let same = sym (unfed bytes line after p) ∙ e ∙ unfed bytes' line' after' q in
       (p.0 ∙ same ∙ sym q.0, same, p.1 ∙ sym q.1)
-
--- a text begins with one section
-pub one_section : (name name' text body after body' after' : List ℕ) (s : IsSection name text body after) (t : IsSection name' text body' after') → (s.line ≡ t.line) × (body ≡ body') × (after ≡ after')
-one_section name name' text body after body' after' s t =
-    let row = one_row s.bytes s.line (body ++ after) t.bytes t.line (body' ++ after') (sym s.is ∙ t.is) s.row t.row in
-    let part = one_part body after body' after' row.2 s.part t.part in
-    (row.1, part.0, part.1)

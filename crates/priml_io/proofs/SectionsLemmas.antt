@@ -8,7 +8,7 @@ use Rattle.std.proofs.lemmas.Bool.Decides.{nat_tests}
 use Rattle.std.proofs.lemmas.Grind.{common_steps}
 use Rattle.std.proofs.lemmas.List.Elements.{All-append, All-cons, All-nil}
 use Rattle.priml_io.specs.Lines.{lines}
-use Rattle.priml_io.specs.Sections.{IsMarked, IsRow, IsWhole, IsPart, IsHeading, IsSection, IsBlank, IsPadded, bytes_of, Gathers, none, inputs, schedule}
+use Rattle.priml_io.specs.Sections.{IsMarked, IsRow, IsWhole, IsPart, IsBlank, IsPadded, bytes_of}
 use Rattle.priml_io.proofs.LinesLemmas.{lines-append, lines-row}
 
 -- what was passed of the text, line by line: no line of it is marked
@@ -93,26 +93,6 @@ row-last text rest n e plain z =
     let all : take n text ≡ text = take_all n text (omega (arith, e)) in
     (text, record { plain = rw all at plain; ended = inr (refl, z) }, sym (append-nil text) ∙ ap (λ v. text ++ v) (sym z))
 
-ended-only : (part after : List ℕ) → (after ≡ []) ⊎ (IsWhole part × IsMarked after) → (after ≡ []) ⊎ IsMarked after
-ended-only part after (inl e) = inl e
-ended-only part after (inr w) = inr w.1
-
-gathers-end : (input program : List ℕ) (i s : Option (List ℕ)) (n : ℕ) (after : List ℕ) → Gathers input program i s n after → (after ≡ []) ⊎ IsMarked after
-gathers-end input program _ _ _ _ (none n after is part e) = ended-only program after part.ended
-gathers-end input program _ _ _ _ (inputs m n text body after g section e) = ended-only body after section.part.ended
-gathers-end input program _ _ _ _ (schedule m n text body after g section e) = ended-only body after section.part.ended
-
--- where something is left, it begins with a section
-pub gathers-marked : (input program : List ℕ) (i s : Option (List ℕ)) (n : ℕ) (after : List ℕ) → Gathers input program i s n after → 0 < length after → IsMarked after
-gathers-marked input program i s n after g some = go (gathers-end input program i s n after g) where
-  go : (after ≡ []) ⊎ IsMarked after → IsMarked after
-  go (inl e) = absurd (omega (arith, ap length e))
-  go (inr m) = m
-
-pub section-of : (name text line tail body after bytes : List ℕ) → IsRow bytes line tail → text ≡ bytes ++ tail → tail ≡ body ++ after → IsHeading name line → IsPart body after → IsSection name text body after
-section-of name text line tail body after bytes row is whole heading part =
-    record { bytes = bytes; line = line; is = is ∙ ap (λ v. bytes ++ v) whole; row = rw whole at row; heading = heading; part = part }
-
 pub bytes_of-none : (o : Option (Bor (List ℕ))) → false ≡ is_some o → bytes_of o ≡ None
 bytes_of-none None e = refl
 bytes_of-none (Some x) e = let k : false ≡ true = e in absurd cc
@@ -123,6 +103,9 @@ bytes_of-some (Some x) e = refl
 
 pub some-from_test : (n : ℕ) → false ≡ (n == 0) → 0 < n
 some-from_test n e = grind (arith, nat_tests)
+
+pub none-from_test : (n : ℕ) → true ≡ (n == 0) → n ≡ 0
+none-from_test n e = grind (arith, nat_tests)
 
 -- the slice of a list from n on
 pub rest-is : (text : List ℕ) (n : ℕ) → take (length text - n) (drop n text) ≡ drop n text

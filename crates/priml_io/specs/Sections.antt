@@ -1,5 +1,5 @@
--- The sections of an input: the program, and after it the bodies of the sections that have a line of their own.
-use Rattle.std.specs.Prelude.{◌≡◌, ◌≢◌, ℕ, ◌+◌, ◌⊎◌, List, [], ◌∷◌, ◌++◌, length, take, All, codes, None, Some, IsSome}
+-- The sections of an input: the program, and after it the texts of the sections that have a line of their own.
+use Rattle.std.specs.Prelude.{◌≡◌, ◌≢◌, ℕ, ◌+◌, ◌⊎◌, List, [], ◌∷◌, ◌++◌, length, take, All, codes, None, Some, unwrap_or}
 use Rattle.std.specs.declared.option.Option.{Option}
 use Rattle.std.specs.Borrow.{Bor}
 use Rattle.priml_io.specs.Lines.{lines}
@@ -22,10 +22,23 @@ IsPadded text line = (blanks : List ℕ) × (line ≡ text ++ blanks) × All IsB
 abbrev pub IsHeading : List ℕ → List ℕ → Type 0
 IsHeading name line = IsPadded (codes "===" ++ name) line
 
--- the bytes of a slice, where there is one
-abbrev pub bytes_of : Option (Bor (List ℕ)) → Option (List ℕ)
-bytes_of None = None
-bytes_of (Some slice) = Some slice.now
+-- no line is the heading of this name, and some line is
+abbrev pub IsAbsent : List ℕ → List (List ℕ) → Type 0
+IsAbsent name ls = All (λ line. ¬ IsHeading name line) ls
+
+abbrev pub Stands : List ℕ → List (List ℕ) → Type 0
+Stands name ls = (before : List (List ℕ)) × (line : List ℕ) × (after : List (List ℕ)) × (ls ≡ before ++ line ∷ after) × IsHeading name line
+
+-- after a line that is the heading of this name no other is
+abbrev pub StandsOnce : List ℕ → List (List ℕ) → Type 0
+StandsOnce name [] = Unit {0}
+StandsOnce name (line ∷ ls) = (IsHeading name line → IsAbsent name ls) × StandsOnce name ls
+
+-- each line that begins a section begins `inputs` or `schedule`, and no section begins twice
+pub record AreSections (ls : List (List ℕ)) : Type 0 where
+  pub known : All (λ line. IsMarked line → IsHeading (codes "inputs") line ⊎ IsHeading (codes "schedule") line) ls
+  pub inputs : StandsOnce (codes "inputs") ls
+  pub schedule : StandsOnce (codes "schedule") ls
 
 -- the bytes of one line, with its line feed, which a line may lack where nothing follows
 pub record IsRow (bytes line after : List ℕ) : Type 0 where
@@ -36,40 +49,79 @@ pub record IsRow (bytes line after : List ℕ) : Type 0 where
 abbrev pub IsWhole : List ℕ → Type 0
 IsWhole text = (text ≡ []) ⊎ ((front : List ℕ) × (text ≡ front ++ 10 ∷ []))
 
--- the program, or the body of a section: no line of it is marked, and it ends where the input ends or where a marked
+-- the program, or the text of a section: no line of it is marked, and it ends where the input ends or where a marked
 -- line begins
 pub record IsPart (part after : List ℕ) : Type 0 where
   pub plain : All (λ line. ¬ IsMarked line) (lines part)
   pub ended : (after ≡ []) ⊎ (IsWhole part × IsMarked after)
 
--- a text is a section of this name, with this body, and what comes after it
-pub record IsSection (name text body after : List ℕ) : Type 0 where
+-- the input begins with this program
+abbrev pub IsProgram : List ℕ → List ℕ → Type 0
+IsProgram input program = (after : List ℕ) × (input ≡ program ++ after) × IsPart program after
+
+-- some line of the input is the heading of this name, and this text is behind it
+pub record IsBehind (input name body : List ℕ) : Type 0 where
+  pub front : List ℕ
   pub bytes : List ℕ
   pub line : List ℕ
-  pub is : text ≡ bytes ++ (body ++ after)
+  pub after : List ℕ
+  pub is : input ≡ front ++ (bytes ++ (body ++ after))
+  pub whole : IsWhole front
   pub row : IsRow bytes line (body ++ after)
   pub heading : IsHeading name line
   pub part : IsPart body after
 
--- The input begins with this program and with sections of known names, none twice, of these bodies. What comes
--- after them begins at line n, counted from 1.
-pub data Gathers (input program : List ℕ) : Option (List ℕ) → Option (List ℕ) → ℕ → List ℕ → Type 0 where
-  none : (n : ℕ) (after : List ℕ) → input ≡ program ++ after → IsPart program after → n ≡ 1 + length (lines program) → Gathers input program None None n after
-  inputs : {schedule : Option (List ℕ)} (m n : ℕ) (text body after : List ℕ) → Gathers input program None schedule m text → IsSection (codes "inputs") text body after → n ≡ m + 1 + length (lines body) → Gathers input program (Some body) schedule n after
-  schedule : {inputs : Option (List ℕ)} (m n : ℕ) (text body after : List ℕ) → Gathers input program inputs None m text → IsSection (codes "schedule") text body after → n ≡ m + 1 + length (lines body) → Gathers input program inputs (Some body) n after
+-- the text of the section of this name, where the input has one
+abbrev pub IsSection : List ℕ → List ℕ → Option (List ℕ) → Type 0
+IsSection input name None = IsAbsent name (lines input)
+IsSection input name (Some body) = IsBehind input name body
 
--- the n-th line begins a section, after the program and sections of known names, none twice, of these bodies
-pub record Meets (input : List ℕ) (inputs schedule : Option (List ℕ)) (n : ℕ) (line : List ℕ) : Type 0 where
+-- the texts of an input; that of an absent section is empty
+pub record Sections : Type 0 where
   pub program : List ℕ
-  pub text : List ℕ
-  pub bytes : List ℕ
-  pub after : List ℕ
-  pub gathered : Gathers input program inputs schedule n text
-  pub marked : IsMarked text
-  pub is : text ≡ bytes ++ after
-  pub row : IsRow bytes line after
+  pub inputs : List ℕ
+  pub schedule : List ℕ
+
+abbrev pub texts : List ℕ → Option (List ℕ) → Option (List ℕ) → Sections
+texts program inputs schedule = record { program = program; inputs = unwrap_or inputs []; schedule = unwrap_or schedule [] }
+
+-- the bytes of a slice, where there is one
+abbrev pub bytes_of : Option (Bor (List ℕ)) → Option (List ℕ)
+bytes_of None = None
+bytes_of (Some slice) = Some slice.now
+
+-- The input is cut into a program and these sections, all that there are.
+pub record Cuts (input program : List ℕ) (inputs schedule : Option (List ℕ)) : Type 0 where
+  pub right : AreSections (lines input)
+  pub program_is : IsProgram input program
+  pub inputs_is : IsSection input (codes "inputs") inputs
+  pub schedule_is : IsSection input (codes "schedule") schedule
+
+-- the input is cut into these texts
+abbrev pub IsCut : List ℕ → Sections → Type 0
+IsCut input s = (inputs schedule : Option (List ℕ)) × Cuts input s.program inputs schedule × (s ≡ texts s.program inputs schedule)
+
+-- a line that begins a section, where the lines before it are right; its number is counted from 1
+pub record Comes (input : List ℕ) (n : ℕ) (before : List (List ℕ)) (line : List ℕ) : Type 0 where
+  pub after : List (List ℕ)
+  pub is : lines input ≡ before ++ line ∷ after
+  pub number : n ≡ length before + 1
+  pub right : AreSections before
+  pub marked : IsMarked line
+
+-- the heading of this name comes again
+abbrev pub ComesAgain : List ℕ → List (List ℕ) → List ℕ → Type 0
+ComesAgain name before line = IsHeading name line × Stands name before
 
 -- the first line that begins no new section of a known name, and what is wrong with it
 abbrev pub HasSectionFault : List ℕ → SectionFault → Type 0
-HasSectionFault input (fault.UnknownSection n) = (inputs schedule : Option (List ℕ)) × ((line : List ℕ) × Meets input inputs schedule n line × (¬ IsHeading (codes "inputs") line) × (¬ IsHeading (codes "schedule") line))
-HasSectionFault input (fault.TwiceSection n) = (inputs schedule : Option (List ℕ)) × ((line : List ℕ) × Meets input inputs schedule n line × ((IsSome inputs × IsHeading (codes "inputs") line) ⊎ (IsSome schedule × IsHeading (codes "schedule") line)))
+HasSectionFault input (fault.UnknownSection n) =
+    (before : List (List ℕ)) × (line : List ℕ) × Comes input n before line × (¬ IsHeading (codes "inputs") line) × (¬ IsHeading (codes "schedule") line)
+HasSectionFault input (fault.TwiceSection n) =
+    (before : List (List ℕ)) × (line : List ℕ) × Comes input n before line × (ComesAgain (codes "inputs") before line ⊎ ComesAgain (codes "schedule") before line)
+
+-- an input is cut in one way, or it has one fault, and not both
+pub record CutsOneWay (input : List ℕ) : Type 0 where
+  pub one : (s t : Sections) → IsCut input s → IsCut input t → s ≡ t
+  pub first : (f g : SectionFault) → HasSectionFault input f → HasSectionFault input g → f ≡ g
+  pub apart : (s : Sections) (f : SectionFault) → IsCut input s → HasSectionFault input f → ⊥

@@ -11,7 +11,7 @@ mod whole;
 mod words;
 
 pub use ends::{Failed, Sink, Source};
-pub use laws::all_words_are_read;
+pub use laws::{all_words_are_read, every_input_is_cut};
 pub use memory::{MemSink, MemSource};
 pub use sections::{SectionFault, Sections, next_line, split};
 pub use standard::{StdSink, StdSource};

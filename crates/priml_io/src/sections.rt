@@ -1,8 +1,6 @@
-ghost use Rattle.std.specs.declared.option.Option.{Option};
 ghost use Rattle.std.specs.Prelude.{◌≡◌, ◌≢◌, ◌+◌, ◌<◌, ◌≤◌, ◌++◌, ◌⊎◌, ℕ, List, [], length, take, slice_index, All, IfOk, IfErr, MatchBool};
 ghost use Rattle.priml_io.specs.Lines.{lines};
-ghost use Rattle.priml_io.specs.declared.sections.SectionFault.{SectionFault};
-ghost use Rattle.priml_io.specs.Sections.{bytes_of, IsBlank, IsPadded, IsRow, IsPart, IsMarked, Gathers, HasSectionFault};
+ghost use Rattle.priml_io.specs.Sections.{bytes_of, IsBlank, IsPadded, IsRow, IsPart, IsMarked, Cuts, HasSectionFault, CutsOneWay};
 
 /// The texts of an input: the program, and the bodies of the sections that stand in it.
 #[derive(Clone, Copy, Debug, PartialEq, Eq)]
@@ -27,19 +25,16 @@ pub enum SectionFault {
 /// Cuts the input into the program and the sections after it. A line whose first three bytes are `===` begins a section;
 /// its rest, without spaces, tabs and carriage returns at the end, is the name. The first line at fault decides.
 pub fn split(input: &[u8]) -> Result<Sections<'_>, SectionFault>
-    ensures ok { IfOk result (λ s. (n : ℕ) × Gathers input.now s.program.now (bytes_of s.inputs) (bytes_of s.schedule) n []) }
-    ensures only { IfOk result (λ s. (program : List ℕ) (inputs schedule : Option (List ℕ)) (n : ℕ) → Gathers input.now program inputs schedule n [] → (program ≡ s.program.now) × (inputs ≡ bytes_of s.inputs) × (schedule ≡ bytes_of s.schedule)) }
-    ensures right { IfOk result (λ s. (f : SectionFault) → ¬ HasSectionFault input.now f) }
+    ensures ok { IfOk result (λ s. Cuts input.now s.program.now (bytes_of s.inputs) (bytes_of s.schedule)) }
     ensures fault { IfErr result (HasSectionFault input.now) }
-    ensures only_fault { IfErr result (λ f. (g : SectionFault) → HasSectionFault input.now g → g ≡ f) }
-    ensures refused { IfErr result (λ f. (program : List ℕ) (inputs schedule : Option (List ℕ)) (n : ℕ) → ¬ Gathers input.now program inputs schedule n []) }
+    ensures one_way { CutsOneWay input.now }
 {
     cut(input)
 }
 
 /// The program and the sections, or the first line at fault.
 fn cut(input: &[u8]) -> Result<Sections<'_>, SectionFault>
-    ensures ok { IfOk result (λ s. (n : ℕ) × Gathers input.now s.program.now (bytes_of s.inputs) (bytes_of s.schedule) n []) }
+    ensures ok { IfOk result (λ s. Cuts input.now s.program.now (bytes_of s.inputs) (bytes_of s.schedule)) }
     ensures fault { IfErr result (HasSectionFault input.now) }
 {
     let (program, mut rest, count) = next_part(input);

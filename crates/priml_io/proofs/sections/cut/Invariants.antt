@@ -1,10 +1,11 @@
 use Rattle.std.proofs.Common.{◌≤◌, ◌+◌, length}
-use Rattle.priml_io.specs.Sections.{bytes_of, Gathers}
+use Rattle.priml_io.specs.Sections.{bytes_of}
+use Rattle.priml_io.proofs.Cutting.{Cutting}
 use Rattle.priml_io.proofs.sections.cut.Given as goal
 
 abbrev pub invariant-loop-rest : goal.invariant-loop-rest
 invariant-loop-rest l = record {
-  gathered : Gathers l.fn.input l.program (bytes_of l.inputs) (bytes_of l.schedule) l.number l.rest;
+  cutting : Cutting l.fn.input l.program (bytes_of l.inputs) (bytes_of l.schedule) l.number l.rest;
   few : l.number + length l.rest ≤ 1 + length l.fn.input;
 }
 

@@ -16,21 +16,16 @@ use Rattle.source_reader.specs.Resolved.{type_meant, term_meant, terms_meant, pr
 use Rattle.source_reader.proofs.Lists.{no_faults, holds, has_room, within}
 use Rattle.source_reader.proofs.Lookup.{lookup_within}
 
--- how many priorities, priority variables and procedures the names stand for
-abbrev pub scope_of : Env → scoped.Scope
-scope_of env = record { prios = length env.prios; vars = length env.vars; procs = length env.procs }
+-- each name stands for a priority, a priority variable or a procedure in scope
+pub record Places (s : scoped.Scope) (env : Env) : Type 0 where
+  pub prios : (id k : ℕ) → env.prios id ≡ Some k → k < s.prios
+  pub vars : (id k : ℕ) → lookup id env.vars ≡ Some k → k < s.vars
+  pub procs : (id k : ℕ) → env.procs id ≡ Some k → k < s.procs
 
 named_in : (s : scoped.Scope) (v d : Option ℕ) → ((k : ℕ) → v ≡ Some k → k < s.vars) → ((k : ℕ) → d ≡ Some k → k < s.prios) → is_some (prio_named v d) ≡ true → PrioIn s (unwrap_or (prio_named v d) (Const 0))
 named_in s (Some k) d h g e = h k refl
 named_in s None (Some k) h g e = g k refl
 named_in s None None h g e = absurd (cc)
-
-pub prio_scoped : (env : Env) (n : Name) → prio_faults env n ≡ [] → PrioIn (scope_of env) (prio_of env n.id)
-prio_scoped env n e = named_in (scope_of env) (lookup n.id env.vars) (lookup n.id env.prios) (λ k q. lookup_within env.vars n.id k q) (λ k q. lookup_within env.prios n.id k q) (holds (is_some (prio_in env n.id)) (UnknownName n.at) e)
-
-pub prios_scoped : (env : Env) (ns : List Name) → prios_faults env ns ≡ [] → PriosIn (scope_of env) (prios_meant env ns)
-prios_scoped env [] e = tt
-prios_scoped env (n ∷ ns) e = let p = no_faults (prio_faults env n) (prios_faults env ns) e in (prio_scoped env n p.0, prios_scoped env ns p.1)
 
 same_nodes : (env : Env) (t : RawType) → type_nodes (type_meant env t) ≡ raw_nodes t
 same_nodes env unit = refl
@@ -40,86 +35,94 @@ same_nodes env (pair a b) = let p = same_nodes env a in let q = same_nodes env b
 same_nodes env (sum a b) = let p = same_nodes env a in let q = same_nodes env b in omega (arith, p, q)
 same_nodes env (thread p a) = let q = same_nodes env a in omega (arith, q)
 
-type_scoped : (env : Env) (t : RawType) → type_faults env t ≡ [] → TypeIn (scope_of env) (type_meant env t)
-type_scoped env unit e = tt
-type_scoped env bool e = tt
-type_scoped env int e = tt
-type_scoped env (pair a b) e = let p = no_faults (type_faults env a) (type_faults env b) e in (type_scoped env a p.0, type_scoped env b p.1)
-type_scoped env (sum a b) e = let p = no_faults (type_faults env a) (type_faults env b) e in (type_scoped env a p.0, type_scoped env b p.1)
-type_scoped env (thread n a) e = let p = no_faults (prio_faults env n) (type_faults env a) e in (prio_scoped env n p.0, type_scoped env a p.1)
-
 few_nodes : (n : ℕ) → nat_le n 16 ≡ true → n ≤ 16
 few_nodes n e = grind (arith, nat_tests)
-
-pub written_scoped : (env : Env) (w : WrittenType) → written_faults env w ≡ [] → Written (scope_of env) (type_meant env w.ty)
-written_scoped env w e =
-    let p = no_faults (unless (nat_le (raw_nodes w.ty) 16) (TooMany w.at what.TypeNodes)) (type_faults env w.ty) e in
-    let few = few_nodes (raw_nodes w.ty) (holds (nat_le (raw_nodes w.ty) 16) (TooMany w.at what.TypeNodes) p.0) in
-    let same = same_nodes env w.ty in
-    (type_scoped env w.ty p.1, omega (arith, few, same))
 
 var_scoped : (at id : ℕ) (scope : List ℕ) → unless (is_among id scope) (UnknownName at) ≡ [] → unwrap_or (lookup id scope) 0 < length scope
 var_scoped at id scope e = within (lookup id scope) (length scope) (UnknownName at) (λ k q. lookup_within scope id k q) e
 
-pub term_scoped : (env : Env) (t : RawTerm) (scope : List ℕ) → term_faults env t scope ≡ [] → TermIn (scope_of env) (length scope) (term_meant env t scope)
-term_scoped env (var at id) scope e = var_scoped at id scope e
-term_scoped env (number at n) scope e = tt
-term_scoped env (truth at b) scope e = tt
-term_scoped env (nothing at) scope e = tt
-term_scoped env (both at a b) scope e = let p = no_faults (term_faults env a scope) (term_faults env b scope) e in (term_scoped env a scope p.0, term_scoped env b scope p.1)
-term_scoped env (first at a) scope e = term_scoped env a scope e
-term_scoped env (second at a) scope e = term_scoped env a scope e
-term_scoped env (left at w a) scope e = let p = no_faults (written_faults env w) (term_faults env a scope) e in (written_scoped env w p.0, term_scoped env a scope p.1)
-term_scoped env (right at w a) scope e = let p = no_faults (written_faults env w) (term_faults env a scope) e in (written_scoped env w p.0, term_scoped env a scope p.1)
-term_scoped env (binary at op a b) scope e = let p = no_faults (term_faults env a scope) (term_faults env b scope) e in (term_scoped env a scope p.0, term_scoped env b scope p.1)
-term_scoped env (negated at a) scope e = term_scoped env a scope e
+module _ (s : scoped.Scope) (env : Env) (places : Places s env) where
+  pub prio_scoped : (n : Name) → prio_faults env n ≡ [] → PrioIn s (prio_of env n.id)
+  prio_scoped n e = named_in s (lookup n.id env.vars) (env.prios n.id) (λ k q. places.vars n.id k q) (λ k q. places.prios n.id k q) (holds (is_some (prio_in env n.id)) (UnknownName n.at) e)
 
-pub terms_scoped : (env : Env) (ts : List RawTerm) (scope : List ℕ) → terms_faults env ts scope ≡ [] → TermsIn (scope_of env) (length scope) (terms_meant env ts scope)
-terms_scoped env [] scope e = tt
-terms_scoped env (t ∷ ts) scope e = let p = no_faults (term_faults env t scope) (terms_faults env ts scope) e in (term_scoped env t scope p.0, terms_scoped env ts scope p.1)
+  pub prios_scoped : (ns : List Name) → prios_faults env ns ≡ [] → PriosIn s (prios_meant env ns)
+  prios_scoped [] e = tt
+  prios_scoped (n ∷ ns) e = let p = no_faults (prio_faults env n) (prios_faults env ns) e in (prio_scoped n p.0, prios_scoped ns p.1)
 
--- a block with one variable more in scope
-one_more : (c : RawCode) (env : Env) (scope : List ℕ) (id : ℕ) → CodeIn (code_meant c env (scope ++ id ∷ [])) (scope_of env) (length (scope ++ id ∷ [])) → CodeIn (code_meant c env (scope ++ id ∷ [])) (scope_of env) (length scope + 1)
-one_more c env scope id h = subst (CodeIn (code_meant c env (scope ++ id ∷ [])) (scope_of env)) (length-append scope (id ∷ [])) h
+  type_scoped : (t : RawType) → type_faults env t ≡ [] → TypeIn s (type_meant env t)
+  type_scoped unit e = tt
+  type_scoped bool e = tt
+  type_scoped int e = tt
+  type_scoped (pair a b) e = let p = no_faults (type_faults env a) (type_faults env b) e in (type_scoped a p.0, type_scoped b p.1)
+  type_scoped (sum a b) e = let p = no_faults (type_faults env a) (type_faults env b) e in (type_scoped a p.0, type_scoped b p.1)
+  type_scoped (thread n a) e = let p = no_faults (prio_faults env n) (type_faults env a) e in (prio_scoped n p.0, type_scoped a p.1)
 
-mutual
-  pub code_scoped : (c : RawCode) (env : Env) (scope : List ℕ) → code_faults c env scope ≡ [] → CodeIn (code_meant c env scope) (scope_of env) (length scope)
-  code_scoped (block at b) env scope e = body_scoped b env scope e
+  pub written_scoped : (w : WrittenType) → written_faults env w ≡ [] → Written s (type_meant env w.ty)
+  written_scoped w e =
+      let p = no_faults (unless (nat_le (raw_nodes w.ty) 16) (TooMany w.at what.TypeNodes)) (type_faults env w.ty) e in
+      let few = few_nodes (raw_nodes w.ty) (holds (nat_le (raw_nodes w.ty) 16) (TooMany w.at what.TypeNodes) p.0) in
+      let same = same_nodes env w.ty in
+      (type_scoped w.ty p.1, omega (arith, few, same))
 
-  pub body_scoped : (b : RawBody) (env : Env) (scope : List ℕ) → body_faults b env scope ≡ [] → BodyIn (body_meant b env scope) (scope_of env) (length scope)
-  body_scoped (bind n at a rest) env scope e =
-      let p = no_faults (scope_faults n scope) (act_faults a env scope ++ body_faults rest env (scope ++ n.id ∷ [])) e in
-      let q = no_faults (act_faults a env scope) (body_faults rest env (scope ++ n.id ∷ [])) p.1 in (
-        act_scoped a env scope q.0,
-        has_room n.at (length scope) 32 what.Scope p.0,
-        subst (BodyIn (body_meant rest env (scope ++ n.id ∷ [])) (scope_of env)) (length-append scope (n.id ∷ [])) (body_scoped rest env (scope ++ n.id ∷ []) q.1),
-      )
-  body_scoped (give at t) env scope e = term_scoped env t scope e
-  body_scoped (branch at t a b) env scope e =
-      let p = no_faults (term_faults env t scope) (code_faults a env scope ++ code_faults b env scope) e in
-      let q = no_faults (code_faults a env scope) (code_faults b env scope) p.1 in
-      (term_scoped env t scope p.0, code_scoped a env scope q.0, code_scoped b env scope q.1)
-  body_scoped (split at t m a n b) env scope e =
-      let fa = scope_faults m scope ++ code_faults a env (scope ++ m.id ∷ []) in
-      let fb = scope_faults n scope ++ code_faults b env (scope ++ n.id ∷ []) in
-      let p = no_faults (term_faults env t scope) (fa ++ fb) e in
-      let q = no_faults fa fb p.1 in
-      let x = no_faults (scope_faults m scope) (code_faults a env (scope ++ m.id ∷ [])) q.0 in
-      let y = no_faults (scope_faults n scope) (code_faults b env (scope ++ n.id ∷ [])) q.1 in (
-        term_scoped env t scope p.0,
-        has_room m.at (length scope) 32 what.Scope x.0,
-        one_more a env scope m.id (code_scoped a env (scope ++ m.id ∷ []) x.1),
-        one_more b env scope n.id (code_scoped b env (scope ++ n.id ∷ []) y.1),
-      )
+  pub term_scoped : (t : RawTerm) (scope : List ℕ) → term_faults env t scope ≡ [] → TermIn s (length scope) (term_meant env t scope)
+  term_scoped (var at id) scope e = var_scoped at id scope e
+  term_scoped (number at n) scope e = tt
+  term_scoped (truth at b) scope e = tt
+  term_scoped (nothing at) scope e = tt
+  term_scoped (both at a b) scope e = let p = no_faults (term_faults env a scope) (term_faults env b scope) e in (term_scoped a scope p.0, term_scoped b scope p.1)
+  term_scoped (first at a) scope e = term_scoped a scope e
+  term_scoped (second at a) scope e = term_scoped a scope e
+  term_scoped (left at w a) scope e = let p = no_faults (written_faults env w) (term_faults env a scope) e in (written_scoped w p.0, term_scoped a scope p.1)
+  term_scoped (right at w a) scope e = let p = no_faults (written_faults env w) (term_faults env a scope) e in (written_scoped w p.0, term_scoped a scope p.1)
+  term_scoped (binary at op a b) scope e = let p = no_faults (term_faults env a scope) (term_faults env b scope) e in (term_scoped a scope p.0, term_scoped b scope p.1)
+  term_scoped (negated at a) scope e = term_scoped a scope e
 
-  pub act_scoped : (a : RawAct) (env : Env) (scope : List ℕ) → act_faults a env scope ≡ [] → ActIn (act_meant a env scope) (scope_of env) (length scope)
-  act_scoped (ret t) env scope e = term_scoped env t scope e
-  act_scoped (spawn n b) env scope e = let p = no_faults (prio_faults env n) (code_faults b env scope) e in (prio_scoped env n p.0, code_scoped b env scope p.1)
-  act_scoped (sync h) env scope e = var_scoped h.at h.id scope e
-  act_scoped (call f ps ts) env scope e =
-      let p = no_faults (proc_faults env f) (prios_faults env ps ++ terms_faults env ts scope) e in
-      let q = no_faults (prios_faults env ps) (terms_faults env ts scope) p.1 in
-      (var_scoped f.at f.id env.procs p.0, prios_scoped env ps q.0, terms_scoped env ts scope q.1)
-  act_scoped (run b) env scope e = code_scoped b env scope e
-  act_scoped input env scope e = tt
-  act_scoped (output t) env scope e = term_scoped env t scope e
+  pub terms_scoped : (ts : List RawTerm) (scope : List ℕ) → terms_faults env ts scope ≡ [] → TermsIn s (length scope) (terms_meant env ts scope)
+  terms_scoped [] scope e = tt
+  terms_scoped (t ∷ ts) scope e = let p = no_faults (term_faults env t scope) (terms_faults env ts scope) e in (term_scoped t scope p.0, terms_scoped ts scope p.1)
+
+  -- a block with one variable more in scope
+  one_more : (c : RawCode) (scope : List ℕ) (id : ℕ) → CodeIn (code_meant c env (scope ++ id ∷ [])) s (length (scope ++ id ∷ [])) → CodeIn (code_meant c env (scope ++ id ∷ [])) s (length scope + 1)
+  one_more c scope id h = subst (CodeIn (code_meant c env (scope ++ id ∷ [])) s) (length-append scope (id ∷ [])) h
+
+  mutual
+    pub code_scoped : (c : RawCode) (scope : List ℕ) → code_faults c env scope ≡ [] → CodeIn (code_meant c env scope) s (length scope)
+    code_scoped (block at b) scope e = body_scoped b scope e
+
+    pub body_scoped : (b : RawBody) (scope : List ℕ) → body_faults b env scope ≡ [] → BodyIn (body_meant b env scope) s (length scope)
+    body_scoped (bind n at a rest) scope e =
+        let p = no_faults (scope_faults n scope) (act_faults a env scope ++ body_faults rest env (scope ++ n.id ∷ [])) e in
+        let q = no_faults (act_faults a env scope) (body_faults rest env (scope ++ n.id ∷ [])) p.1 in (
+          act_scoped a scope q.0,
+          has_room n.at (length scope) 32 what.Scope p.0,
+          subst (BodyIn (body_meant rest env (scope ++ n.id ∷ [])) s) (length-append scope (n.id ∷ [])) (body_scoped rest (scope ++ n.id ∷ []) q.1),
+        )
+    body_scoped (give at t) scope e = term_scoped t scope e
+    body_scoped (branch at t a b) scope e =
+        let p = no_faults (term_faults env t scope) (code_faults a env scope ++ code_faults b env scope) e in
+        let q = no_faults (code_faults a env scope) (code_faults b env scope) p.1 in
+        (term_scoped t scope p.0, code_scoped a scope q.0, code_scoped b scope q.1)
+    body_scoped (split at t m a n b) scope e =
+        let fa = scope_faults m scope ++ code_faults a env (scope ++ m.id ∷ []) in
+        let fb = scope_faults n scope ++ code_faults b env (scope ++ n.id ∷ []) in
+        let p = no_faults (term_faults env t scope) (fa ++ fb) e in
+        let q = no_faults fa fb p.1 in
+        let x = no_faults (scope_faults m scope) (code_faults a env (scope ++ m.id ∷ [])) q.0 in
+        let y = no_faults (scope_faults n scope) (code_faults b env (scope ++ n.id ∷ [])) q.1 in (
+          term_scoped t scope p.0,
+          has_room m.at (length scope) 32 what.Scope x.0,
+          one_more a scope m.id (code_scoped a (scope ++ m.id ∷ []) x.1),
+          one_more b scope n.id (code_scoped b (scope ++ n.id ∷ []) y.1),
+        )
+
+    pub act_scoped : (a : RawAct) (scope : List ℕ) → act_faults a env scope ≡ [] → ActIn (act_meant a env scope) s (length scope)
+    act_scoped (ret t) scope e = term_scoped t scope e
+    act_scoped (spawn n b) scope e = let p = no_faults (prio_faults env n) (code_faults b env scope) e in (prio_scoped n p.0, code_scoped b scope p.1)
+    act_scoped (sync h) scope e = var_scoped h.at h.id scope e
+    act_scoped (call f ps ts) scope e =
+        let p = no_faults (proc_faults env f) (prios_faults env ps ++ terms_faults env ts scope) e in
+        let q = no_faults (prios_faults env ps) (terms_faults env ts scope) p.1 in
+        (within (env.procs f.id) s.procs (UnknownName f.at) (λ k q. places.procs f.id k q) p.0, prios_scoped ps q.0, terms_scoped ts scope q.1)
+    act_scoped (run b) scope e = code_scoped b scope e
+    act_scoped input scope e = tt
+    act_scoped (output t) scope e = term_scoped t scope e

@@ -1,5 +1,5 @@
 -- The steps of a walk over declarations: what is known of all of them from what is known of each.
-use Rattle.std.proofs.Common.{◌≡◌, ℕ, zero, suc, ◌+◌, ◌<◌, List, [], ◌∷◌, ◌++◌, length, map, take, drop, get_or, string_bytes, arith, sym, refl, ap, ap₂, subst, ◌∙◌}
+use Rattle.std.proofs.Common.{Option, ◌≡◌, ℕ, zero, suc, ◌+◌, ◌<◌, List, [], ◌∷◌, ◌++◌, length, map, take, drop, get_or, string_bytes, arith, sym, refl, ap, ap₂, subst, ◌∙◌}
 use Rattle.std.proofs.lemmas.List.{length-map, take_more, map-append}
 use Rattle.priml_syntax.specs.declared.program.Program.{Program}
 use Rattle.priml_syntax.specs.Tree.{Declared, Routine, Tree}
@@ -54,7 +54,7 @@ next_names xs i d l e = ap priorities (mapped_take read_decl xs i d l e) ∙ nam
 pub next_called : (xs : List RawDecl) (i : ℕ) (d : RawDecl) → i < length xs → d ≡ get_or xs i d → procedures (map read_decl (take (i + 1) xs)) ≡ procedures (map read_decl (take i xs)) ++ procedures (read_decl d ∷ [])
 next_called xs i d l e = ap procedures (mapped_take read_decl xs i d l e) ∙ called_push (map read_decl (take i xs)) (read_decl d)
 
-pub next_pairs : (prios : List ℕ) (xs : List RawDecl) (i : ℕ) (d : RawDecl) → i < length xs → d ≡ get_or xs i d
+pub next_pairs : (prios : ℕ → Option ℕ) (xs : List RawDecl) (i : ℕ) (d : RawDecl) → i < length xs → d ≡ get_or xs i d
     → pairs_meant prios (map read_decl (take (i + 1) xs)) ≡ pairs_meant prios (map read_decl (take i xs)) ++ pairs_meant prios (read_decl d ∷ [])
 next_pairs prios xs i d l e = ap (pairs_meant prios) (mapped_take read_decl xs i d l e) ∙ pairs_push prios (map read_decl (take i xs)) (read_decl d)
 

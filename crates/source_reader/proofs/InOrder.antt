@@ -1,5 +1,5 @@
 -- The faults of a program stand in the order of its text.
-use Rattle.std.proofs.Common.{◌≡◌, ℕ, ◌+◌, ◌≤◌, List, [], ◌∷◌, ◌++◌, length, nat_le, arith, sym, refl, subst, append_assoc}
+use Rattle.std.proofs.Common.{◌≡◌, ℕ, ◌+◌, ◌≤◌, List, [], ◌∷◌, ◌++◌, length, is_some, nat_le, arith, sym, refl, subst, append_assoc}
 use Rattle.source_tokens.specs.declared.token.Token.{Token}
 use Rattle.source_tokens.specs.declared.token.Stop.TheVariants as stop
 use Rattle.source_tokens.specs.declared.token.Sign.TheVariants as s'
@@ -135,7 +135,7 @@ mutual
   action_runs (IsAction.is_spawn at i close n b) env scope o = after o (λ p. after p (λ q. then_runs (ending (here q (prio_at env n))) (λ j r. block_runs b env scope r)))
   action_runs (IsAction.is_sync at h) env scope o = after o (λ p. here p (one_at (is_among h.id scope) (UnknownName h.at)))
   action_runs (IsAction.is_call at i close f ps es) env scope o =
-      after o (λ p. then_runs (here p (one_at (is_among f.id env.procs) (UnknownName f.at))) (λ j q. then_runs (ending (called_run env ps q)) (λ k r. ending (terms_run env scope es r))))
+      after o (λ p. then_runs (here p (one_at (is_some (env.procs f.id)) (UnknownName f.at))) (λ j q. then_runs (ending (called_run env ps q)) (λ k r. ending (terms_run env scope es r))))
   action_runs (IsAction.is_run at b) env scope o = after o (λ p. block_runs b env scope p)
   action_runs (IsAction.is_input at) env scope o = after o (λ p. none_here p)
   action_runs (IsAction.is_output at e) env scope o = after o (λ p. expr_runs env scope e p)

@@ -5,6 +5,7 @@ pub mod RawBlocks
 pub mod Walk
 pub mod Clean
 pub mod Tables
+pub mod Narrow
 pub mod Routines
 pub mod Ordered
 pub mod Runs

@@ -1,10 +1,10 @@
 -- Laws of lists of declarations.
-use Rattle.std.proofs.Common.{◌≡◌, ℕ, ◌+◌, ◌≤◌, List, [], ◌∷◌, ◌++◌, length, append_assoc, append-nil, arith, sym, refl, ap, subst}
+use Rattle.std.proofs.Common.{Option, ◌≡◌, ℕ, ◌+◌, ◌≤◌, List, [], ◌∷◌, ◌++◌, length, append_assoc, append-nil, arith, sym, refl, ap, subst}
 use Rattle.std.proofs.lemmas.List.{length-append}
 use Rattle.priml_syntax.specs.Tree.{Declared}
 use Rattle.source_grammar.specs.RawTree.{Declaration, priority, order, procedure}
 use Rattle.source_reader.specs.declared.faults.What.TheVariants.{Priorities, Pairs, Procedures}
-use Rattle.source_reader.specs.Names.{priorities, procedures, pairs_in, Env, place_of}
+use Rattle.source_reader.specs.Names.{priorities, procedures, pairs_in, Env, number_of}
 use Rattle.source_reader.specs.Faults.{again_faults, room_faults, prio_faults, procedure_faults, decl_faults, decls_faults}
 use Rattle.source_reader.specs.Resolved.{pairs_meant, procs_meant, proc_meant}
 use Rattle.source_reader.proofs.Lists.{no_faults, has_room}
@@ -22,10 +22,10 @@ called_push (priority n ∷ ds) d = called_push ds d
 called_push (order at m n ∷ ds) d = called_push ds d
 called_push (procedure f ∷ ds) d = ap (λ v. f.name.id ∷ v) (called_push ds d)
 
-pub pairs_push : (prios : List ℕ) (ds : List Declaration) (d : Declaration) → pairs_meant prios (ds ++ d ∷ []) ≡ pairs_meant prios ds ++ pairs_meant prios (d ∷ [])
+pub pairs_push : (prios : ℕ → Option ℕ) (ds : List Declaration) (d : Declaration) → pairs_meant prios (ds ++ d ∷ []) ≡ pairs_meant prios ds ++ pairs_meant prios (d ∷ [])
 pairs_push prios [] d = refl
 pairs_push prios (priority n ∷ ds) d = pairs_push prios ds d
-pairs_push prios (order at m n ∷ ds) d = let p : Declared = record { at = at; pair = (place_of m.id prios, place_of n.id prios) } in ap (λ v. p ∷ v) (pairs_push prios ds d)
+pairs_push prios (order at m n ∷ ds) d = let p : Declared = record { at = at; pair = (number_of (prios m.id), number_of (prios n.id)) } in ap (λ v. p ∷ v) (pairs_push prios ds d)
 pairs_push prios (procedure f ∷ ds) d = pairs_push prios ds d
 
 pub procs_push : (env : Env) (ds : List Declaration) (d : Declaration) → procs_meant env (ds ++ d ∷ []) ≡ procs_meant env ds ++ procs_meant env (d ∷ [])
@@ -34,7 +34,7 @@ procs_push env (priority n ∷ ds) d = procs_push env ds d
 procs_push env (order at m n ∷ ds) d = procs_push env ds d
 procs_push env (procedure f ∷ ds) d = ap (λ v. proc_meant env f ∷ v) (procs_push env ds d)
 
-pub pairs_long : (prios : List ℕ) (ds : List Declaration) → length (pairs_meant prios ds) ≡ pairs_in ds
+pub pairs_long : (prios : ℕ → Option ℕ) (ds : List Declaration) → length (pairs_meant prios ds) ≡ pairs_in ds
 pairs_long prios [] = refl
 pairs_long prios (priority n ∷ ds) = pairs_long prios ds
 pairs_long prios (order at m n ∷ ds) = let e = pairs_long prios ds in omega (arith, e)

@@ -23,7 +23,7 @@ prios_faults env (n ∷ ns) = prio_faults env n ++ prios_faults env ns
 
 -- a name that is no procedure
 abbrev pub proc_faults : Env → Name → List Fault
-proc_faults env n = unless (is_among n.id env.procs) (UnknownName n.at)
+proc_faults env n = unless (is_some (env.procs n.id)) (UnknownName n.at)
 
 -- a variable that is not in scope
 abbrev pub var_faults : ℕ → ℕ → List ℕ → List Fault

@@ -3,6 +3,7 @@ pub mod Faults
 pub mod Resolved
 pub mod Fits
 pub mod Gives
+pub mod Narrow
 pub mod Known
 pub mod Bodies
 pub mod Parts

@@ -10,9 +10,13 @@ abbrev pub lookup : ℕ → List ℕ → Option ℕ
 lookup name [] = None
 lookup name (x ∷ xs) = elim (lookup name xs) [ None ↦ if x == name then Some 0 else None | Some k ↦ Some (k + 1) ]
 
--- the same as a number, where there is one
+-- a place as a number, where there is one
+abbrev pub number_of : Option ℕ → ℕ
+number_of place = unwrap_or place 0
+
+-- the same of a name
 abbrev pub place_of : ℕ → List ℕ → ℕ
-place_of name names = unwrap_or (lookup name names) 0
+place_of name names = number_of (lookup name names)
 
 -- whether the name is one of them
 abbrev pub is_among : ℕ → List ℕ → Bool
@@ -47,12 +51,12 @@ ids ns = map (λ (n : Name). n.id) ns
 abbrev pub param_ids : List Parameter → List ℕ
 param_ids ps = map (λ (p : Parameter). p.name.id) ps
 
--- what the names of priorities and procedures stand for where a block stands: the declared priorities, the priority variables of
--- the procedure, which hide them, and the procedures
+-- what the names of priorities and procedures stand for where a block stands: the place of the declared priority of a name, the priority
+-- variables of the procedure, which hide declared priorities, and the place of the procedure of a name
 pub record Env : Type 0 where
-  pub prios : List ℕ
+  pub prios : ℕ → Option ℕ
   pub vars : List ℕ
-  pub procs : List ℕ
+  pub procs : ℕ → Option ℕ
 
 -- the priority of a name, where a variable of the procedure hides a declared one
 abbrev pub prio_named : Option ℕ → Option ℕ → Option Prio
@@ -61,7 +65,7 @@ prio_named None (Some a) = Some (Const a)
 prio_named None None = None
 
 abbrev pub prio_in : Env → ℕ → Option Prio
-prio_in env id = prio_named (lookup id env.vars) (lookup id env.prios)
+prio_in env id = prio_named (lookup id env.vars) (env.prios id)
 
 -- the same as a priority, where there is one
 abbrev pub prio_of : Env → ℕ → Prio
@@ -69,7 +73,7 @@ prio_of env id = unwrap_or (prio_in env id) (Const 0)
 
 -- the names of a program's declarations, outside its procedures
 abbrev pub env_of : List Declaration → Env
-env_of ds = record { prios = priorities ds; vars = []; procs = procedures ds }
+env_of ds = record { prios = λ id. lookup id (priorities ds); vars = []; procs = λ id. lookup id (procedures ds) }
 
 -- inside a procedure with these priority variables
 abbrev pub with_vars : Env → List Name → Env

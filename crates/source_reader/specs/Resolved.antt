@@ -1,11 +1,11 @@
 -- What a program without faults means: each name is the number of what it stands for.
-use Rattle.std.specs.Prelude.{ℕ, pos, List, [], ◌∷◌, ◌++◌, map, get_or, length}
+use Rattle.std.specs.Prelude.{ℕ, pos, Option, List, [], ◌∷◌, ◌++◌, map, get_or, length}
 use Rattle.priml_syntax.specs.declared.prio.Prio.{Prio}
 use Rattle.priml_syntax.specs.Tree as tree
 use Rattle.priml_syntax.specs.Tree.{Type', Term, Code, Body, Act, Constraint, Signature, Routine, Declared, Tree}
 use Rattle.source_grammar.specs.declared.raw.Name.{Name}
 use Rattle.source_grammar.specs.RawTree.{RawType, unit, bool, int, pair, sum, thread, RawTerm, var, number, truth, nothing, both, first, second, left, right, binary, negated, RawCode, block, RawBody, bind, give, branch, split, RawAct, ret, spawn, sync, call, run, input, output, Parameter, RawProcedure, Declaration, priority, order, procedure, RawRoutine, RawTree}
-use Rattle.source_reader.specs.Names.{place_of, priorities, param_ids, Env, prio_of, env_of, with_vars}
+use Rattle.source_reader.specs.Names.{number_of, place_of, priorities, param_ids, Env, prio_of, env_of, with_vars}
 
 abbrev pub type_meant : Env → RawType → Type'
 type_meant env unit = tree.unit
@@ -50,7 +50,7 @@ abbrev mutual
   act_meant (ret e) env scope = tree.ret (term_meant env e scope)
   act_meant (spawn p b) env scope = tree.spawn (prio_of env p.id) (code_meant b env scope)
   act_meant (sync h) env scope = tree.sync (place_of h.id scope)
-  act_meant (call f ps es) env scope = tree.call (place_of f.id env.procs) (prios_meant env ps) (terms_meant env es scope)
+  act_meant (call f ps es) env scope = tree.call (number_of (env.procs f.id)) (prios_meant env ps) (terms_meant env es scope)
   act_meant (run b) env scope = tree.run (code_meant b env scope)
   act_meant input env scope = tree.input
   act_meant (output e) env scope = tree.output (term_meant env e scope)
@@ -77,11 +77,11 @@ procs_meant env (priority n ∷ ds) = procs_meant env ds
 procs_meant env (order at m n ∷ ds) = procs_meant env ds
 procs_meant env (procedure f ∷ ds) = proc_meant env f ∷ procs_meant env ds
 
--- the declared pairs, in order, by the numbers of the priorities
-abbrev pub pairs_meant : List ℕ → List Declaration → List Declared
+-- the declared pairs, in order, by the places of the priorities
+abbrev pub pairs_meant : (ℕ → Option ℕ) → List Declaration → List Declared
 pairs_meant prios [] = []
 pairs_meant prios (priority n ∷ ds) = pairs_meant prios ds
-pairs_meant prios (order at m n ∷ ds) = record { at = at; pair = (place_of m.id prios, place_of n.id prios) } ∷ pairs_meant prios ds
+pairs_meant prios (order at m n ∷ ds) = record { at = at; pair = (number_of (prios m.id), number_of (prios n.id)) } ∷ pairs_meant prios ds
 pairs_meant prios (procedure f ∷ ds) = pairs_meant prios ds
 
 -- a main is a routine without priority variables, constraints and parameters
@@ -92,7 +92,7 @@ main_meant env m = record { at = m.at; declares = record { vars = 0; given = [];
 abbrev pub resolved : List (List ℕ) → RawTree → Tree
 resolved names p = record {
   names = map (λ id. get_or names id []) (priorities p.decls);
-  declared = pairs_meant (priorities p.decls) p.decls;
+  declared = pairs_meant (env_of p.decls).prios p.decls;
   procs = procs_meant (env_of p.decls) p.decls;
   mains = main_meant (env_of p.decls) p.main ∷ [];
 }

@@ -5,7 +5,7 @@ ghost use Rattle.priml_syntax.specs.Tree as tree;
 ghost use Rattle.priml_syntax.specs.Read.{read_code, read_act, read_tail};
 ghost use Rattle.source_grammar.specs.RawRead.{read_block, read_action, read_expr};
 ghost use Rattle.source_grammar.specs.RawRead.{read_tail as read_raw_tail};
-ghost use Rattle.source_reader.specs.Names.{place_of};
+ghost use Rattle.source_reader.specs.Names.{number_of};
 ghost use Rattle.source_reader.specs.Faults.{proc_faults, prios_faults, terms_faults, scope_faults, code_faults, body_faults, act_faults};
 ghost use Rattle.source_reader.specs.Resolved.{prios_meant, terms_meant, code_meant, body_meant, act_meant};
 ghost use Rattle.source_reader.specs.Fits.{TermsFit, CodeFits, BodyFits, ActFits};
@@ -217,7 +217,7 @@ fn call(
 ) -> Result<Action, ResolveStop>
     requires room { length scope.now ≤ 32 }
     requires fits { TermsFit (map read_expr arguments.now) }
-    ensures { Gives (proc_faults (env_in names.now) called.now ++ (prios_faults (env_in names.now) given.now ++ terms_faults (env_in names.now) (map read_expr arguments.now) scope.now)) (tree.call (place_of called.now.id (env_in names.now).procs) (prios_meant (env_in names.now) given.now) (terms_meant (env_in names.now) (map read_expr arguments.now) scope.now)) read_act result }
+    ensures { Gives (proc_faults (env_in names.now) called.now ++ (prios_faults (env_in names.now) given.now ++ terms_faults (env_in names.now) (map read_expr arguments.now) scope.now)) (tree.call (number_of ((env_in names.now).procs called.now.id)) (prios_meant (env_in names.now) given.now) (terms_meant (env_in names.now) (map read_expr arguments.now) scope.now)) read_act result }
 {
     let number = procedure(names, called)?;
     let given = priorities(alloc, names, given)?;

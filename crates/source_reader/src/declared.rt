@@ -4,13 +4,14 @@ ghost use Rattle.std.specs.Prelude.{◌≡◌, ◌++◌, ◌∷◌, [], length, 
 ghost use Rattle.priml_syntax.specs.Read.{read_pair, read_proc};
 ghost use Rattle.source_grammar.specs.RawRead.{read_decl};
 ghost use Rattle.source_reader.specs.declared.faults.What.TheVariants as what;
-ghost use Rattle.source_reader.specs.Names.{place_of, priorities, procedures, env_of};
+ghost use Rattle.source_reader.specs.Names.{number_of, priorities, procedures, env_of};
 ghost use Rattle.source_reader.specs.Faults.{room_faults, prio_faults, decls_faults};
 ghost use Rattle.source_reader.specs.Resolved.{pairs_meant, procs_meant};
 ghost use Rattle.source_reader.specs.Fits.{DeclsFit, BodiesFit};
 ghost use Rattle.source_reader.specs.Parts.{declared_faults};
 ghost use Rattle.source_reader.specs.Gives.{Gives, Finds, plain};
 ghost use Rattle.source_reader.specs.Known.{env_in};
+ghost use Rattle.source_reader.specs.Narrow.{narrowed};
 
 use crate::faults::{Fault, ResolveStop, What};
 use crate::names::{Index, Names};
@@ -39,7 +40,7 @@ pub struct Declared {
 /// The names that are declared anywhere in the text, outside procedures, of so many distinct names.
 pub fn names_of(alloc: Global, names: usize, decls: &[RawDecl]) -> Result<Names, AllocError>
     requires { DeclsFit names (map read_decl decls.now) }
-    ensures { IfOk result (λ n. env_in n ≡ env_of (map read_decl decls.now)) }
+    ensures { IfOk result (λ n. env_in n ≡ narrowed (env_of (map read_decl decls.now))) }
 {
     let mut priorities = Index::new(alloc, names)?;
     let mut procedures = Index::new(alloc, names)?;
@@ -132,7 +133,7 @@ fn pair(
 ) -> Result<(), ResolveStop>
     requires none { names.now.vars.items ≡ [] }
     ensures faults { Finds (room_faults at (length pairs.old.items) 256 what.Pairs ++ (prio_faults (env_in names.now) low.now ++ prio_faults (env_in names.now) high.now)) result }
-    ensures pairs { OnOk result (pairs.new.items ≡ pairs.old.items ++ (at, place_of low.now.id (env_in names.now).prios, place_of high.now.id (env_in names.now).prios) ∷ []) }
+    ensures pairs { OnOk result (pairs.new.items ≡ pairs.old.items ++ (at, number_of ((env_in names.now).prios low.now.id), number_of ((env_in names.now).prios high.now.id)) ∷ []) }
 {
     if pairs.len() >= PAIRS {
         return Err(ResolveStop::Fault(Fault::TooMany(at, What::Pairs)));
@@ -146,7 +147,7 @@ fn pair(
 // The number of a declared priority, outside procedures.
 fn known(names: &Names, name: &Name) -> Result<u32, ResolveStop>
     requires none { names.now.vars.items ≡ [] }
-    ensures { Gives (prio_faults (env_in names.now) name.now) (place_of name.now.id (env_in names.now).prios) plain result }
+    ensures { Gives (prio_faults (env_in names.now) name.now) (number_of ((env_in names.now).prios name.now.id)) plain result }
 {
     match names.priorities.get(name.id) {
         Some(number) => Ok(number),

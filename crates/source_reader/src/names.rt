@@ -2,6 +2,7 @@
 
 ghost use Rattle.std.specs.Prelude.{◌≡◌, ◌<◌, ◌≤◌, ◌++◌, ◌∷◌, [], ℕ, None, get_or, length, IfOk, OnOk};
 ghost use Rattle.source_reader.specs.Names.{lookup};
+ghost use Rattle.source_reader.specs.Narrow.{narrow};
 
 use std::alloc::{AllocError, Global};
 
@@ -11,7 +12,7 @@ use std::alloc::{AllocError, Global};
 pub struct Index {
     pub ids: Vec<usize>,
     pub places: Vec<Option<u32>>,
-    ghost indexed: { (id : ℕ) → get_or places.items id None ≡ lookup id ids.items },
+    ghost indexed: { (id : ℕ) → get_or places.items id None ≡ narrow (lookup id ids.items) },
 }
 
 /// The names of priorities and procedures where a block stands: what the program declares, and the priority variables of the
@@ -37,15 +38,14 @@ impl Index {
         })
     }
 
-    /// Puts one more name behind the declared ones. More than 2 to the 32 are want of memory.
+    /// Puts one more name behind the declared ones. A place past the last value of u32 is kept as that value: so many names pass the limits
+    /// of a program, and only whether they are known counts.
     pub fn push(&mut self, id: usize) -> Result<(), AllocError>
         requires { id < length self.old.places.items }
         ensures ids { OnOk result (self.new.ids.items ≡ self.old.ids.items ++ id ∷ []) }
         ensures wide { length self.new.places.items ≡ length self.old.places.items }
     {
-        let Ok(place) = u32::try_from(self.ids.len()) else {
-            return Err(AllocError);
-        };
+        let place = self.ids.len().min(u32::MAX as usize) as u32;
         self.ids.push(id)?;
         self.places[id] = Some(place);
         Ok(())
@@ -53,7 +53,7 @@ impl Index {
 
     /// The place of the last declaration of this name, 0 for the first of all.
     pub fn get(&self, id: usize) -> Option<u32>
-        ensures { result ≡ lookup id self.now.ids.items }
+        ensures { result ≡ narrow (lookup id self.now.ids.items) }
     {
         if id < self.places.len() {
             self.places[id]

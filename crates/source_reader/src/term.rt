@@ -4,7 +4,7 @@ ghost use Rattle.std.specs.Prelude.{◌≡◌, ◌≤◌, ◌-◌, ◌^◌, leng
 ghost use Rattle.priml_syntax.specs.Read.{read_type, read_term, read_form};
 ghost use Rattle.source_grammar.specs.RawRead.{read_ty, read_written, read_expr};
 ghost use Rattle.source_grammar.specs.RawRead.{read_form as read_raw_form};
-ghost use Rattle.source_reader.specs.Names.{place_of, prio_of};
+ghost use Rattle.source_reader.specs.Names.{number_of, place_of, prio_of};
 ghost use Rattle.source_reader.specs.Faults.{raw_nodes, prio_faults, proc_faults, var_faults, type_faults, written_faults, term_faults};
 ghost use Rattle.source_reader.specs.Resolved.{type_meant, term_meant};
 ghost use Rattle.source_reader.specs.Fits.{TermFits};
@@ -48,7 +48,7 @@ pub fn priority(names: &Names, name: &Name) -> Result<Prio, ResolveStop>
 
 /// The number of the procedure of this name.
 pub fn procedure(names: &Names, name: &Name) -> Result<u32, ResolveStop>
-    ensures { Gives (proc_faults (env_in names.now) name.now) (place_of name.now.id (env_in names.now).procs) plain result }
+    ensures { Gives (proc_faults (env_in names.now) name.now) (number_of ((env_in names.now).procs name.now.id)) plain result }
 {
     match names.procedures.get(name.id) {
         Some(number) => Ok(number),

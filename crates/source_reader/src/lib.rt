@@ -16,4 +16,4 @@ mod term;
 pub use faults::{Fault, What};
 pub use inputs_text::{InputFault, read_inputs};
 pub use laws::source_laws;
-pub use reader::{SourceFault, SourceTree, read_source, read_source_with_tree};
+pub use reader::{SourceFault, read_source, read_source_leaving_tree};

@@ -29,6 +29,7 @@ use source_grammar::{ParseStop, parse};
 use source_tokens::lexer::{Lexed, lex};
 use source_tokens::token::{Stop, Token};
 use std::alloc::{AllocError, Global};
+use std::mem::forget;
 
 /// Why a text gives no program. Each but the last has the offset of a byte. The tokens of the whole text are looked at first, and of their faults the
 /// earliest place decides; only where they are those of a program, names and limits are. At one place the smaller number of the kind decides.
@@ -74,16 +75,25 @@ pub fn read_source(alloc: Global, text: &[u8]) -> Result<Program, SourceFault>
     Ok(program)
 }
 
-/// The same, with the tree that was read on the way: to free it node by node takes as long as to resolve it, and a process that
-/// ends soon need not.
-pub fn read_source_with_tree(
-    alloc: Global,
-    text: &[u8],
-) -> Result<(Program, SourceTree), SourceFault>
+/// The same, for a process that ends soon: the tree that is read on the way stays in memory, since to free it node by node takes as long
+/// as to resolve it.
+pub fn read_source_leaving_tree(alloc: Global, text: &[u8]) -> Result<Program, SourceFault>
+    ensures program { IfOk result (λ p. Stands text.now (read_program p)) }
+    ensures scoped { IfOk result (λ p. IsScoped (read_program p)) }
+    ensures only { IfOk result (λ p. (q : Tree) → Stands text.now q → q ≡ read_program p) }
+    ensures refused { IfErr result (Refuses text.now) }
+    ensures one { IfErr result (λ e. e ≢ SourceFault.OutOfMemory → (f : SourceFault) → IsFaultOf text.now f → f ≡ e) }
+{
+    let (program, tree) = read_source_with_tree(alloc, text)?;
+    forget(tree);
+    Ok(program)
+}
+
+// The program, with the tree that was read on the way.
+fn read_source_with_tree(alloc: Global, text: &[u8]) -> Result<(Program, SourceTree), SourceFault>
     ensures program { IfOk result (λ r. Stands text.now (read_program r.0)) }
     ensures scoped { IfOk result (λ r. IsScoped (read_program r.0)) }
     ensures only { IfOk result (λ r. (q : Tree) → Stands text.now q → q ≡ read_program r.0) }
-    ensures tree { IfOk result (λ r. IsWrittenAs text.now (name_bytes r.1.names) (read_raw r.1.raw)) }
     ensures refused { IfErr result (Refuses text.now) }
     ensures one { IfErr result (λ e. e ≢ SourceFault.OutOfMemory → (f : SourceFault) → IsFaultOf text.now f → f ≡ e) }
 {
@@ -92,9 +102,9 @@ pub fn read_source_with_tree(
     Ok((program, tree))
 }
 
-/// A text as a tree over its distinct names, which are not resolved.
+// A text as a tree over its distinct names, which are not resolved.
 #[derive(Drop)]
-pub struct SourceTree {
+struct SourceTree {
     names: IndexSet<Vec<u8>>,
     raw: RawProgram,
 }

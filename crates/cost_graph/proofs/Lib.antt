@@ -22,3 +22,4 @@ pub mod Said
 pub mod Ordered
 pub mod JobEnds
 pub mod Unfit
+pub mod Frontiers

@@ -7,20 +7,20 @@ use Rattle.std.proofs.lemmas.List.{get_or-set_same, get_or-set_other, length-set
 use Rattle.std.proofs.lemmas.List.Elements.{All-contains, All-from_get_or, Contains-get_or, Contains-append_left, Contains-append_right, Contains-append_cases}
 use Rattle.std.proofs.lemmas.List.Sums.{AllPass-from_list_all, list_all-from_AllPass}
 use Rattle.cost_graph.specs.Graph.{CostGraph, vertex_total, Edge, parents_at, children_at, is_edge}
-use Rattle.cost_graph.specs.Marks.{is_marked, is_free, IsReady, marks_after, freed_by}
+use Rattle.cost_graph.specs.Marks.{is_marked, is_free, IsReady, BecomesReady, IsDone, marks_after, freed_by}
 use Rattle.cost_graph.proofs.Members.{decides_eq, member_or_not, no_member, member_cons, member_head, member_tail}
 use Rattle.cost_graph.proofs.Ranges.{in_range, in_filter, from_filter, out_filter}
 
 -- ---- marks
 
-marked_set : (marks : List Bool) (v w : ℕ) → v < length marks → is_marked (set marks v true) w ≡ true → (v ≡ w) ⊎ (is_marked marks w ≡ true)
+pub marked_set : (marks : List Bool) (v w : ℕ) → v < length marks → is_marked (set marks v true) w ≡ true → (v ≡ w) ⊎ (is_marked marks w ≡ true)
 marked_set marks v w lt h =
     elim (cases_eq w v) [
       | inl same ↦ inl (sym same)
       | inr other ↦ inr (sym (get_or-set_other marks v w true false other) ∙ h)
     ]
 
-set_marked : (marks : List Bool) (v w : ℕ) → v < length marks → (v ≡ w) ⊎ (is_marked marks w ≡ true) → is_marked (set marks v true) w ≡ true
+pub set_marked : (marks : List Bool) (v w : ℕ) → v < length marks → (v ≡ w) ⊎ (is_marked marks w ≡ true) → is_marked (set marks v true) w ≡ true
 set_marked marks v w lt h =
     elim (cases_eq w v) [
       | inl same ↦ ap (λ x. get_or (set marks v true) x false) same ∙ get_or-set_same marks v true false lt
@@ -126,11 +126,6 @@ freed_has g (v ∷ vs) marks c by small k e f =
 
 -- ---- the state between two steps
 
-pub record IsDone (g : CostGraph) (marks : List Bool) (done : List ℕ) : Type 0 where
-  pub size : length marks ≡ vertex_total g
-  pub agree : (v : ℕ) → (is_marked marks v ≡ true) ↔ Contains done v
-  pub closed : (u v : ℕ) → Edge g u v → Contains done v → Contains done u
-
 length_after : (vs : List ℕ) (marks : List Bool) → length (marks_after marks vs) ≡ length marks
 length_after [] marks = refl
 length_after (v ∷ vs) marks = length_after vs (set marks v true) ∙ length-set marks v true
@@ -182,3 +177,15 @@ module _ (g : CostGraph) (marks : List Bool) (done vs : List ℕ) (state : IsDon
         ];
         parents = λ u e. (done_next.agree u).0 (free_parent g (marks_after marks vs) c u f.free e);
       }
+
+  -- what the step frees is what becomes ready by it
+  pub freed_becomes : (c : ℕ) → Contains (freed_by g marks vs) c ↔ BecomesReady g done (done ++ vs) c
+  freed_becomes c = (
+    λ f. (
+      then_ready c (inr f),
+      λ before.
+          let by = freed_is g vs marks c small f in
+          (runs by.by by.runs).waits (before.parents by.by by.edge),
+    ),
+    λ b. elim (ready_then c b.0) [ inl stays ↦ absurd (b.1 stays.0) | inr f ↦ f ],
+  )

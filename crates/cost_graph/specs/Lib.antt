@@ -1,6 +1,7 @@
 pub mod Walks
 pub mod Graph
 pub mod Marks
+pub mod Frontier
 pub mod Order
 pub mod View
 pub mod Records

@@ -3,6 +3,7 @@
 
 mod build;
 mod finished;
+mod frontier;
 mod graph;
 mod kin;
 mod lines;
@@ -14,9 +15,9 @@ mod stop;
 mod text;
 
 pub use finished::are_finished;
+pub use frontier::Frontier;
 pub use graph::{Graph, Thread};
 pub use kin::{ancestors, descendants};
-pub use marks::{run_step, sources};
 pub use order::{has_cycle, topological};
 pub use shape::well_formed;
 pub use stop::{Shape, ShapeStop};

@@ -1,5 +1,5 @@
 ghost use Rattle.std.specs.Prelude.{◌≡◌, ℕ, ◌+◌, ◌<◌, ◌≤◌, length, ◌++◌, true, false, slice_index, slice_set, OnOk, OnErr, IfOk, IfSome, ◌==◌, vec_len, vec_capacity};
-ghost use Rattle.std.specs.List.{All, filter, range_with_len, sum_by};
+ghost use Rattle.std.specs.List.{All, filter, list_all, range_with_len, sum_by};
 ghost use Rattle.cost_graph.specs.Graph.{vertex_total, parents_at, children_at};
 ghost use Rattle.cost_graph.specs.Marks.{is_marked, is_free, IsSeen, marks_after, freed_by};
 
@@ -65,8 +65,16 @@ fn count_children(graph: &Graph, vertices: &Vec<u32>) -> Option<usize>
     Some(count)
 }
 
+/// Whether each of the numbers is marked.
+pub(crate) fn are_marked(marks: &[bool], numbers: &[u32]) -> bool
+    requires { All (λ n. n < length marks.now) numbers.now }
+    ensures { result ≡ list_all (is_marked marks.now) numbers.now }
+{
+    numbers.iter().all(|n| marks[*n as usize])
+}
+
 /// Visits the vertices in turn, and answers those that they free. Where memory is wanting nothing is visited.
-pub fn run_step(
+pub(crate) fn run_step(
     alloc: Global,
     graph: &Graph,
     marks: &mut Vec<bool>,
@@ -91,7 +99,7 @@ pub fn run_step(
 }
 
 /// The vertices without parents, ascending.
-pub fn sources(alloc: Global, graph: &Graph) -> Result<Vec<u32>, AllocError>
+pub(crate) fn sources(alloc: Global, graph: &Graph) -> Result<Vec<u32>, AllocError>
     ensures { IfOk result (λ f. f.items ≡ filter (λ v. length (parents_at graph.now v) == 0) (range_with_len 0 (vertex_total graph.now))) }
 {
     let mut found = Vec::new(alloc);

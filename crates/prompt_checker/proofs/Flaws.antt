@@ -1,18 +1,16 @@
--- The flaw of a step, from what the marks and the sets show.
-use Rattle.std.proofs.Common.{◌≡◌, ℕ, ◌<◌, ◌≤◌, ◌↔◌, Bool, true, List, length, take, get_or, refl, sym, subst, inl, inr, arith}
+-- The flaw of a step, from what ran before it and what the sets show.
+use Rattle.std.proofs.Common.{◌≡◌, ℕ, ◌<◌, ◌≤◌, ◌↔◌, true, List, length, take, refl, sym, subst, inl, inr, arith}
 use Rattle.std.specs.Prelude.{None, Some}
 use Rattle.std.specs.List.{Contains}
 use Rattle.std.specs.BTreeSet.{BTreeSet}
-use Rattle.std.proofs.lemmas.Bool.{cases_Bool, both_ways}
-use Rattle.std.proofs.lemmas.List.Elements.{Contains-append_left, Contains-append_right, Contains-append_cases}
+use Rattle.std.proofs.lemmas.List.Elements.{Contains-append_left}
 use Rattle.cost_graph.specs.Graph.{CostGraph, vertex_total, vertex_priority, parents_at, IsVertexBelow}
 use Rattle.priority_order.specs.Order.{IsBelow}
-use Rattle.cost_graph.specs.Marks.{IsReady, is_free}
-use Rattle.cost_graph.proofs.Members.{parents_seen, in_take}
-use Rattle.cost_graph.proofs.ReadyNext.{IsDone, after_marked, marked_after, free_from, free_parent}
+use Rattle.cost_graph.specs.Marks.{IsReady}
+use Rattle.cost_graph.proofs.Members.{parents_seen}
 use Rattle.prompt_checker.specs.Schedule.{vertices_before, step_at}
-use Rattle.prompt_checker.specs.Verdict.{rank, StoodBefore, LacksParent, IsLeftOut, Overtakes, HasFlaw, IsFlaw}
-use Rattle.prompt_checker.specs.Watch.{IsFound, WasMarked, IsEarly, holds, IsHeld, IsIdle, IsBroken, IsUnfair}
+use Rattle.prompt_checker.specs.Verdict.{rank, IsLeftOut, Overtakes, HasFlaw, IsFlaw}
+use Rattle.prompt_checker.specs.Watch.{IsFound, StandsAgain, IsEarly, holds, IsHeld, IsIdle, IsBroken, IsUnfair}
 use Rattle.prompt_checker.specs.declared.schedule.FlawKind.{FlawKind}
 use Rattle.prompt_checker.specs.declared.schedule.FlawKind.TheVariants.{EmptyStep, TooWide, Twice, NotReady, IdleCore, Inverted, Unfinished}
 use Rattle.prompt_checker.proofs.Fine.{IsFine, place, no_flaw}
@@ -60,8 +58,7 @@ module _ (g : CostGraph) (pairs : List (ℕ × ℕ)) (cores : ℕ) (steps : List
       past : i < length steps → ⊥
       past lt = omega (arith, lt, e)
 
-  module _ (i : ℕ) (lt : i < length steps) (marks : List Bool) (done : IsDone g marks (vertices_before steps i))
-      (small : (v : ℕ) → Contains (step_at steps i) v → v < vertex_total g) (before : (j : ℕ) → j < i → IsFine g (IsVertexBelow g pairs) cores steps j) where
+  module _ (i : ℕ) (lt : i < length steps) (small : (v : ℕ) → Contains (step_at steps i) v → v < vertex_total g) (before : (j : ℕ) → j < i → IsFine g (IsVertexBelow g pairs) cores steps j) where
     abbrev line : List ℕ
     line = step_at steps i
 
@@ -71,42 +68,19 @@ module _ (g : CostGraph) (pairs : List (ℕ × ℕ)) (cores : ℕ) (steps : List
     le : i ≤ length steps
     le = omega (arith, lt)
 
-    fits : (j w : ℕ) → Contains (take j line) w → w < length marks
-    fits j w c = subst (λ n. w < n) (sym done.size) (small w (in_take line j w c))
-
-    stood_to : (j v : ℕ) → WasMarked marks line j v → StoodBefore g (IsVertexBelow g pairs) cores steps i j v
-    stood_to j v m =
-        elim (after_marked (take j line) marks v (fits j) m) [
-          | inl old ↦ Contains-append_left done_list (take j line) v ((done.agree v).0 old)
-          | inr new ↦ Contains-append_right done_list (take j line) v new
-        ]
-
-    stood_from : (j v : ℕ) → StoodBefore g (IsVertexBelow g pairs) cores steps i j v → WasMarked marks line j v
-    stood_from j v c = marked_after (take j line) marks v (fits j) (elim (Contains-append_cases done_list (take j line) v c) [ inl a ↦ inl ((done.agree v).1 a) | inr b ↦ inr b ])
-
-    early_to : (j v : ℕ) → IsEarly g marks j v → LacksParent g (IsVertexBelow g pairs) cores steps i v
-    early_to j v e =
-        elim (parents_seen done_list (parents_at g v)) [
-          | inl all ↦ absurd (both_ways (is_free g marks v) e (free_from g marks v (λ u d. (done.agree u).1 (all u d))))
-          | inr p ↦ (p.0, p.1, p.2)
-        ]
-
-    early_from : (j v : ℕ) → LacksParent g (IsVertexBelow g pairs) cores steps i v → IsEarly g marks j v
-    early_from j v l = elim (cases_Bool (is_free g marks v)) [ inl t ↦ absurd (l.2 ((done.agree l.0).0 (free_parent g marks v l.0 t l.1))) | inr f ↦ f ]
-
     empty_not : 0 < length line → Flawed i EmptyStep → ⊥
     empty_not s h = omega (arith, s, h.1)
 
     wide_not : length line ≤ cores → Flawed i TooWide → ⊥
     wide_not s h = omega (arith, s, h.1)
 
-    twice_not : IsFound line (WasMarked marks line) None → (v : ℕ) → Flawed i (Twice v) → ⊥
-    twice_not none v h = none h.1.0 h.1.1 (subst (WasMarked marks line h.1.0) (sym h.1.2) (stood_from h.1.0 v h.1.3))
+    twice_not : IsFound line (StandsAgain done_list line) None → (v : ℕ) → Flawed i (Twice v) → ⊥
+    twice_not none v h = none h.1.0 h.1.1 (subst (StandsAgain done_list line h.1.0) (sym h.1.2) h.1.3)
 
-    early_not : IsFound line (IsEarly g marks) None → (v : ℕ) → Flawed i (NotReady v) → ⊥
-    early_not none v h = none h.1.0 h.1.1 (subst (IsEarly g marks h.1.0) (sym h.1.2) (early_from h.1.0 v h.1.3))
+    early_not : IsFound line (IsEarly g done_list) None → (v : ℕ) → Flawed i (NotReady v) → ⊥
+    early_not none v h = none h.1.0 h.1.1 (subst (IsEarly g done_list h.1.0) (sym h.1.2) h.1.3)
 
-    pub broken_flaw : (kind : FlawKind) → IsBroken g cores marks line (Some kind) → IsFlaw g (IsVertexBelow g pairs) cores steps i kind
+    pub broken_flaw : (kind : FlawKind) → IsBroken g cores done_list line (Some kind) → IsFlaw g (IsVertexBelow g pairs) cores steps i kind
     broken_flaw EmptyStep h =
         is_flaw i EmptyStep le before (lt, h)
         (none_to i 1 (λ l. absurd (omega (arith, l))) (λ l. absurd (omega (arith, l))) (λ l. absurd (omega (arith, l))) (λ l. absurd (omega (arith, l))) (λ l. absurd (omega (arith, l))) (λ l. absurd (omega (arith, l))) (λ l. absurd (omega (arith, l))))
@@ -114,29 +88,29 @@ module _ (g : CostGraph) (pairs : List (ℕ × ℕ)) (cores : ℕ) (steps : List
         is_flaw i TooWide le before (lt, h.1)
         (none_to i 2 (λ _. empty_not h.0) (λ l. absurd (omega (arith, l))) (λ l. absurd (omega (arith, l))) (λ l. absurd (omega (arith, l))) (λ l. absurd (omega (arith, l))) (λ l. absurd (omega (arith, l))) (λ l. absurd (omega (arith, l))))
     broken_flaw (Twice v) h =
-        is_flaw i (Twice v) le before (lt, first_same line (WasMarked marks line) (λ j w. StoodBefore g (IsVertexBelow g pairs) cores steps i j w) stood_to stood_from v h.2)
+        is_flaw i (Twice v) le before (lt, h.2)
         (none_to i 3 (λ _. empty_not h.0) (λ _. wide_not h.1) (λ l. absurd (omega (arith, l))) (λ l. absurd (omega (arith, l))) (λ l. absurd (omega (arith, l))) (λ l. absurd (omega (arith, l))) (λ l. absurd (omega (arith, l))))
     broken_flaw (NotReady v) h =
-        is_flaw i (NotReady v) le before (lt, first_same line (IsEarly g marks) (λ j w. LacksParent g (IsVertexBelow g pairs) cores steps i w) early_to early_from v h.3)
+        is_flaw i (NotReady v) le before (lt, h.3)
         (none_to i 4 (λ _. empty_not h.0) (λ _. wide_not h.1) (λ _. twice_not h.2) (λ l. absurd (omega (arith, l))) (λ l. absurd (omega (arith, l))) (λ l. absurd (omega (arith, l))) (λ l. absurd (omega (arith, l))))
     broken_flaw (IdleCore u) h = absurd h
     broken_flaw (Inverted v u) h = absurd h
     broken_flaw (Unfinished u) h = absurd h
 
     -- a line of which nothing is wrong by itself is of ready vertices
-    pub runs : IsBroken g cores marks line None → (v : ℕ) → Contains line v → IsReady g done_list v
+    pub runs : IsBroken g cores done_list line None → (v : ℕ) → Contains line v → IsReady g done_list v
     runs h v c =
         let at = place line v c in
         record {
           vertex = small v c;
-          waits = λ d. h.2 at.0 at.1 (stood_from at.0 (get_or line at.0 0) (subst (λ w. StoodBefore g (IsVertexBelow g pairs) cores steps i at.0 w) (sym at.2) (Contains-append_left done_list (take at.0 line) v d)));
+          waits = λ d. h.2 at.0 at.1 (subst (λ w. StandsAgain done_list line at.0 w) (sym at.2) (Contains-append_left done_list (take at.0 line) v d));
           parents = λ u d. elim (parents_seen done_list (parents_at g v)) [
             | inl all ↦ all u d
-            | inr p ↦ absurd (h.3 at.0 at.1 (subst (IsEarly g marks at.0) (sym at.2) (early_from at.0 v (p.0, p.1, p.2))))
+            | inr p ↦ absurd (h.3 at.0 at.1 (subst (IsEarly g done_list at.0) (sym at.2) (p.0, p.1, p.2)))
           ];
         }
 
-    module _ (sets left : List (BTreeSet ℕ)) (held : AreHeld g (vertices_before steps i) sets) (out : AreLeft g sets left (step_at steps i)) (fine : IsBroken g cores marks (step_at steps i) None) where
+    module _ (sets left : List (BTreeSet ℕ)) (held : AreHeld g (vertices_before steps i) sets) (out : AreLeft g sets left (step_at steps i)) (fine : IsBroken g cores (vertices_before steps i) (step_at steps i) None) where
       left_ready : (p u : ℕ) → holds left p u ≡ true → IsLeftOut g (IsVertexBelow g pairs) cores steps i u × (vertex_priority g u ≡ p)
       left_ready p u h =
           let stays = (out.are p u).0 h in
@@ -182,8 +156,8 @@ module _ (g : CostGraph) (pairs : List (ℕ × ℕ)) (cores : ℕ) (steps : List
       fine_here h = record {
         some = fine.0;
         fits = fine.1;
-        once = λ k small_k c. fine.2 k small_k (stood_from k (get_or line k 0) c);
-        ready = λ k small_k l. fine.3 k small_k (early_from k (get_or line k 0) l);
+        once = fine.2;
+        ready = fine.3;
         busy = λ less u l. h.0 less u (left_from u l);
         fair = λ v u c o. let at = place line v c in h.1 at.0 at.1 u (subst (λ w. IsHeld pairs left (Some (vertex_priority g w)) u) (sym at.2) (over_from v u o));
       }

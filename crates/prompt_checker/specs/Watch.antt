@@ -1,10 +1,11 @@
--- What a step shows, by the marks of the vertices that ran before it and by the sets of those that are ready.
-use Rattle.std.specs.Prelude.{◌≡◌, ℕ, ◌<◌, ◌≤◌, List, length, take, get_or, map, min, Option, None, Some, Bool, true, false}
+-- What a step shows, by the vertices that ran before it and by the sets of those that are ready.
+use Rattle.std.specs.Prelude.{◌≡◌, ℕ, ◌<◌, ◌≤◌, ◌↔◌, ◌++◌, List, length, take, get_or, map, min, Option, None, Some, Bool, true, false}
+use Rattle.std.specs.List.{Contains}
 use Rattle.std.specs.BTreeSet.{BTreeSet, contains}
 use Rattle.std.specs.Ordering.{nat_cmp}
 use Rattle.priority_order.specs.Order.{IsBelow}
-use Rattle.cost_graph.specs.Graph.{CostGraph, vertex_priority}
-use Rattle.cost_graph.specs.Marks.{is_marked, is_free, marks_after}
+use Rattle.cost_graph.specs.Graph.{CostGraph, Edge, vertex_priority}
+use Rattle.cost_graph.specs.Marks.{is_marked, marks_after}
 use Rattle.prompt_checker.specs.Verdict.{IsFirstOf, IsLeast}
 use Rattle.prompt_checker.specs.declared.schedule.FlawKind.{FlawKind}
 use Rattle.prompt_checker.specs.declared.schedule.FlawKind.TheVariants.{EmptyStep, TooWide, Twice, NotReady, IdleCore, Inverted, Unfinished}
@@ -29,9 +30,17 @@ lesser_of (Some x) (Some y) = Some (min x y)
 abbrev pub WasMarked : List Bool → List ℕ → ℕ → ℕ → Type 0
 WasMarked marks line j v = is_marked (marks_after marks (take j line)) v ≡ true
 
--- a parent of the vertex is not marked
-abbrev pub IsEarly : CostGraph → List Bool → ℕ → ℕ → Type 0
-IsEarly g marks j v = is_free g marks v ≡ false
+-- the marked vertices are these
+abbrev pub AreStood : List Bool → List ℕ → Type 0
+AreStood marks done = (v : ℕ) → (is_marked marks v ≡ true) ↔ Contains done v
+
+-- the vertex has run, or stands before place j of the line
+abbrev pub StandsAgain : List ℕ → List ℕ → ℕ → ℕ → Type 0
+StandsAgain ran line j v = Contains (ran ++ take j line) v
+
+-- a parent of the vertex has not run
+abbrev pub IsEarly : CostGraph → List ℕ → ℕ → ℕ → Type 0
+IsEarly g ran j v = (p : ℕ) × Edge g p v × (Contains ran p → ⊥)
 
 -- the set of priority p has v
 abbrev pub holds : List (BTreeSet ℕ) → ℕ → ℕ → Bool
@@ -57,16 +66,16 @@ IsOvertaken g pairs sets line None = (k : ℕ) → k < length line → (u : ℕ)
 IsOvertaken g pairs sets line (Some p) =
     IsFirstOf line (λ j w. (u : ℕ) × IsHeld pairs sets (Some (vertex_priority g w)) u) p.0 × IsLeast (IsHeld pairs sets (Some (vertex_priority g p.0))) p.1
 
--- what is wrong with a line by itself and the marks: of the kinds 1 to 4 the first
-abbrev pub IsBroken : CostGraph → ℕ → List Bool → List ℕ → Option FlawKind → Type 0
-IsBroken g cores marks line None = (0 < length line) × (length line ≤ cores) × IsFound line (WasMarked marks line) None × IsFound line (IsEarly g marks) None
-IsBroken g cores marks line (Some EmptyStep) = length line ≡ 0
-IsBroken g cores marks line (Some TooWide) = (0 < length line) × (cores < length line)
-IsBroken g cores marks line (Some (Twice v)) = (0 < length line) × (length line ≤ cores) × IsFound line (WasMarked marks line) (Some v)
-IsBroken g cores marks line (Some (NotReady v)) = (0 < length line) × (length line ≤ cores) × IsFound line (WasMarked marks line) None × IsFound line (IsEarly g marks) (Some v)
-IsBroken g cores marks line (Some (IdleCore u)) = ⊥
-IsBroken g cores marks line (Some (Inverted v u)) = ⊥
-IsBroken g cores marks line (Some (Unfinished u)) = ⊥
+-- what is wrong with a line by itself and what ran: of the kinds 1 to 4 the first
+abbrev pub IsBroken : CostGraph → ℕ → List ℕ → List ℕ → Option FlawKind → Type 0
+IsBroken g cores ran line None = (0 < length line) × (length line ≤ cores) × IsFound line (StandsAgain ran line) None × IsFound line (IsEarly g ran) None
+IsBroken g cores ran line (Some EmptyStep) = length line ≡ 0
+IsBroken g cores ran line (Some TooWide) = (0 < length line) × (cores < length line)
+IsBroken g cores ran line (Some (Twice v)) = (0 < length line) × (length line ≤ cores) × IsFound line (StandsAgain ran line) (Some v)
+IsBroken g cores ran line (Some (NotReady v)) = (0 < length line) × (length line ≤ cores) × IsFound line (StandsAgain ran line) None × IsFound line (IsEarly g ran) (Some v)
+IsBroken g cores ran line (Some (IdleCore u)) = ⊥
+IsBroken g cores ran line (Some (Inverted v u)) = ⊥
+IsBroken g cores ran line (Some (Unfinished u)) = ⊥
 
 -- what is wrong with a line by the sets of what it leaves out: of the kinds 5 and 6 the first
 abbrev pub IsUnfair : CostGraph → List (ℕ × ℕ) → ℕ → List (BTreeSet ℕ) → List ℕ → Option FlawKind → Type 0

@@ -9,7 +9,7 @@ ghost use Rattle.prompt_checker.specs.Verdict.{IsVerdict};
 use crate::marks::{broken, first_missing};
 use crate::ready::{add_ready, empty_sets, unfair};
 use crate::schedule::{Flaw, FlawKind, Schedule, Verdict};
-use cost_graph::{Graph, run_step, sources};
+use cost_graph::{Frontier, Graph};
 use priority_order::Order;
 use std::alloc::{AllocError, Global};
 
@@ -30,25 +30,24 @@ pub fn judge(
     ensures verdict { IfOk result (IsVerdict graph.now (IsVertexBelow graph.now order.now.pairs) cores (steps_of schedule.now)) }
     ensures only { IfOk result (λ v. (other : TheVerdict) → IsVerdict graph.now (IsVertexBelow graph.now order.now.pairs) cores (steps_of schedule.now) other → other ≡ v) }
 {
-    let count = graph.vertex_count() as usize;
-    let mut stood = vec![in alloc; false; count]?;
-    let mut marks = vec![in alloc; false; count]?;
-    let mut seen = vec![in alloc; 0usize; count]?;
+    let count = graph.vertex_count();
+    let mut stood = vec![in alloc; false; count as usize]?;
+    let mut frontier = Frontier::start(alloc, graph)?;
     let mut ready = empty_sets(alloc, order.count())?;
-    let start = sources(alloc, graph)?;
+    let start = frontier.ready(alloc)?;
     add_ready(graph, &mut ready, &start)?;
     for i in 0..schedule.steps.len() {
         let line = &schedule.steps[i];
-        if let Some(kind) = broken(graph, cores, &mut stood, &marks, line) {
+        if let Some(kind) = broken(&frontier, cores, &mut stood, line) {
             return Ok(flaw_at(i, kind));
         }
         if let Some(kind) = unfair(graph, order, cores, &mut ready, line) {
             return Ok(flaw_at(i, kind));
         }
-        let freed = run_step(alloc, graph, &mut marks, &mut seen, line)?;
+        let freed = frontier.step(alloc, line)?;
         add_ready(graph, &mut ready, &freed)?;
     }
-    match first_missing(&marks) {
+    match first_missing(&frontier, count) {
         Some(vertex) => Ok(flaw_at(schedule.steps.len(), FlawKind::Unfinished(vertex))),
         None => Ok(Verdict::Prompt),
     }

@@ -1,32 +1,26 @@
 -- What a plan keeps from step to step.
-use Rattle.std.proofs.Common.{◌≡◌, ℕ, zero, suc, ◌+◌, ◌<◌, ◌≤◌, Bool, false, List, [], ◌∷◌, ◌++◌, length, take, drop, get_or, map, refl, sym, ap, ◌∙◌, subst, inl, inr, arith, ◌⊎◌, ◌↔◌, replicate, ◌==◌}
+use Rattle.std.proofs.Common.{◌≡◌, ℕ, zero, suc, ◌+◌, ◌-◌, ◌<◌, ◌≤◌, false, List, [], ◌∷◌, ◌++◌, length, take, drop, get_or, map, refl, sym, ap, ◌∙◌, subst, inl, inr, arith, ◌⊎◌, ◌↔◌}
+use Rattle.std.specs.Prelude.{nat_eq}
 use Rattle.std.specs.declared.cmp.Ordering.TheVariants.{Less, Equal}
-use Rattle.std.specs.List.{range_with_len, concat, Contains, filter}
+use Rattle.std.specs.List.{concat, Contains, IsDistinct, AllByRecursion}
 use Rattle.std.specs.List.Sorted.{IsStrictlySortedBy}
 use Rattle.std.proofs.lemmas.Cmp.{tied_itself, nat_cmp_total, then_total, on_total}
 use Rattle.std.proofs.lemmas.List.Elements.{Contains-append_cases, All-contains, All-from_recursion}
-use Rattle.std.proofs.lemmas.List.{append-nil, take-append-drop, take-append-le, length-append, length-replicate, length-map, length-take}
-use Rattle.std.proofs.lemmas.Bool.{cases_lt, both_ways}
+use Rattle.std.proofs.lemmas.List.{append-nil, take-append-drop, take-append-le, length-append, length-map, length-take}
+use Rattle.std.proofs.lemmas.Bool.{cases_lt, ne_eqb}
+use Rattle.std.proofs.lemmas.Map.Made.{is_member-Decides}
+use Rattle.std.proofs.lemmas.Map.Steps.{length-le_from_distinct_below}
 use Rattle.std.proofs.Math.Seq.{get_or-append_seam, take-length}
 use Rattle.std.proofs.Math.ListN.{get_or-append}
-use Rattle.cost_graph.specs.Graph.{CostGraph, vertex_total, parents_at}
-use Rattle.cost_graph.proofs.Visits.{numbers_below}
-use Rattle.cost_graph.specs.Marks.{IsSeen}
-use Rattle.cost_graph.specs.Marks.{IsReady, marks_after, freed_by, unmarked}
+use Rattle.cost_graph.specs.Graph.{CostGraph, vertex_total}
+use Rattle.cost_graph.specs.Marks.{IsReady, BecomesReady}
+use Rattle.cost_graph.specs.Frontier.{Progress}
+use Rattle.cost_graph.proofs.Frontiers.{HasReady, ready_first, ready_next}
+use Rattle.cost_graph.proofs.Members.{decides_eq, distinct_join, in_drop, in_take, no_member, member_cons, member_head, member_tail}
 use Rattle.prompt_checker.specs.Plan.{IsPlanned, pair_cmp}
 use Rattle.prompt_checker.specs.Schedule.{vertices_before}
-use Rattle.cost_graph.proofs.Falls.{falls}
-use Rattle.cost_graph.proofs.Members.{no_member_short, short_from_none, in_drop, in_take, no_member, member_cons, member_head, member_tail}
 use Rattle.prompt_checker.proofs.Steps.{concat_append}
 use Rattle.prompt_planner.proofs.Keys.{pair_is}
-use Rattle.cost_graph.proofs.Ranges.{in_range, in_filter, from_filter, out_filter}
-use Rattle.cost_graph.proofs.ReadyNext.{IsDone, done_next, ready_then, then_ready}
-
-pub record IsGoing (g : CostGraph) (lanes : List ℕ) (cores : ℕ) (marks : List Bool) (seen : List ℕ) (keys : List (ℕ × ℕ)) (steps : List (List ℕ)) : Type 0 where
-  pub watched : IsSeen g marks seen
-  pub done : IsDone g marks (concat steps)
-  pub keyed : (k : ℕ × ℕ) → Contains keys k ↔ (IsReady g (concat steps) k.1 × (k.0 ≡ get_or lanes k.1 0))
-  pub each : (i : ℕ) → i < length steps → IsPlanned g lanes cores (vertices_before steps i) (get_or steps i [])
 
 pub same_pair : (a : ℕ × ℕ) → pair_cmp a a ≡ Equal
 same_pair a = tied_itself (then_total (on_total (λ (p : ℕ × ℕ). p.0) nat_cmp_total) (on_total (λ (p : ℕ × ℕ). p.1) nat_cmp_total)) a
@@ -62,35 +56,137 @@ into_map (x ∷ ks) k c =
       | inr late ↦ member_tail x.1 (map (λ z. z.1) ks) k.1 (into_map ks k late)
     ]
 
-module _ (g : CostGraph) (lanes : List ℕ) (cores : ℕ) (marks : List Bool) (seen : List ℕ) (keys : List (ℕ × ℕ)) (steps : List (List ℕ)) (now : IsGoing g lanes cores marks seen keys steps) (rising : IsStrictlySortedBy pair_cmp keys) where
+-- the vertices of keys in order, each behind its lane, are distinct
+pub distinct_step : (lanes : List ℕ) (keys : List (ℕ × ℕ)) → IsStrictlySortedBy pair_cmp keys → ((k : ℕ × ℕ) → Contains keys k → k.0 ≡ get_or lanes k.1 0) → (n : ℕ) → IsDistinct nat_eq (map (λ k. k.1) (take n keys))
+unfolding IsStrictlySortedBy IsDistinct
+distinct_step lanes [] s lane zero = tt
+distinct_step lanes [] s lane (suc n) = tt
+distinct_step lanes (x ∷ xs) s lane zero = tt
+distinct_step lanes (x ∷ xs) s lane (suc n) =
+    (apart (take n xs) (λ k c. in_take xs n k c), distinct_step lanes xs s.1 (λ k c. lane k (member_tail x xs k c)) n)
+  where
+    other : (y : ℕ × ℕ) → Contains xs y → x.1 ≡ y.1 → ⊥
+    other y c e =
+        let first = lane x (member_head x xs) ∙ ap (λ v. get_or lanes v 0) e ∙ sym (lane y (member_tail x xs y c)) in
+        let same = pair_is x y first e in
+        let less = All-contains (λ z. pair_cmp x z ≡ Less) xs y (All-from_recursion (λ z. pair_cmp x z ≡ Less) xs s.0) c in
+        let tied = subst (λ z. pair_cmp x z ≡ Equal) same (same_pair x) in
+        cc (less, tied)
+
+    apart : (ys : List (ℕ × ℕ)) → ((k : ℕ × ℕ) → Contains ys k → Contains xs k) → AllByRecursion (λ v. nat_eq x.1 v ≡ false) (map (λ k. k.1) ys)
+    apart [] sub = tt
+    apart (y ∷ ys) sub = (ne_eqb x.1 y.1 (other y (sub y (member_head y ys))), apart ys (λ k c. sub k (member_tail y ys k c)))
+
+abbrev pub lane_in : List ℕ → ℕ → ℕ
+lane_in lanes v = get_or lanes v 0
+
+pub record IsGoing (g : CostGraph) (lanes : List ℕ) (cores : ℕ) (at : Progress) (keys : List (ℕ × ℕ)) (steps : List (List ℕ)) : Type 0 where
+  pub at_is : at ≡ record { graph = g; ran = concat steps }
+  pub keyed : HasReady g (lane_in lanes) (concat steps) (λ l v. Contains keys (l, v))
+  pub each : (i : ℕ) → i < length steps → IsPlanned g lanes cores (vertices_before steps i) (get_or steps i [])
+  pub once : IsDistinct nat_eq (concat steps)
+  pub within : (v : ℕ) → Contains (concat steps) v → v < vertex_total g
+
+-- distinct numbers below n are at most n
+few : (xs : List ℕ) (n : ℕ) → IsDistinct nat_eq xs → ((v : ℕ) → Contains xs v → v < n) → length xs ≤ n
+few xs n once below = length-le_from_distinct_below xs n once (λ q e. below q ((is_member-Decides decides_eq xs q).0 e))
+
+abbrev of_graph : CostGraph → List ℕ → Progress
+of_graph g ran = record { graph = g; ran = ran }
+
+-- a step from these keys, with what was left and what became ready
+pub record IsStep (g : CostGraph) (lanes : List ℕ) (cores : ℕ) (at : Progress) (keys : List (ℕ × ℕ)) (step freed : List ℕ) (keys' : List (ℕ × ℕ)) : Type 0 where
+  pub first : step ≡ map (λ k. k.1) (take cores keys)
+  pub comes : (v : ℕ) → Contains freed v ↔ BecomesReady at.graph at.ran (at.ran ++ step) v
+  pub are : (k : ℕ × ℕ) → Contains keys' k ↔ (Contains (drop cores keys) k ⊎ (Contains freed k.1 × (k.0 ≡ get_or lanes k.1 0)))
+
+module _ (g : CostGraph) (lanes : List ℕ) (cores : ℕ) (at : Progress) (keys : List (ℕ × ℕ)) (steps : List (List ℕ)) (now : IsGoing g lanes cores at keys steps) (rising : IsStrictlySortedBy pair_cmp keys) where
   abbrev step : List ℕ
   step = map (λ k. k.1) (take cores keys)
 
   runs : (v : ℕ) → Contains step v → IsReady g (concat steps) v
   runs v c =
       let k = from_map (take cores keys) v c in
-      subst (IsReady g (concat steps)) k.2 ((now.keyed k.0).0 (in_take keys cores k.0 k.1)).0
+      subst (IsReady g (concat steps)) k.2 ((now.keyed k.0.0 k.0.1).0 (in_take keys cores k.0 k.1)).0
 
-  pub runs_in : (v : ℕ) → Contains step v → v < vertex_total g
-  runs_in v c = (runs v c).vertex
+  -- the step is of ready vertices
+  pub runs_at : (stp : List ℕ) → stp ≡ map (λ k. k.1) (take cores keys) → (v : ℕ) → Contains stp v → IsReady at.graph at.ran v
+  runs_at stp e v c = subst (λ (p : Progress). IsReady p.graph p.ran v) (sym now.at_is) (runs v (subst (λ l. Contains l v) e c))
 
   all_done : concat (steps ++ step ∷ []) ≡ concat steps ++ step
   all_done = concat_append steps (step ∷ []) ∙ ap (λ l. concat steps ++ l) (append-nil step)
 
-  -- what was left, and what the step freed
-  pub going_on : (seen' : List ℕ) (keys' : List (ℕ × ℕ)) → IsSeen g (marks_after marks step) seen'
-      → ((k : ℕ × ℕ) → Contains keys' k ↔ (Contains (drop cores keys) k ⊎ (Contains (freed_by g marks step) k.1 × (k.0 ≡ get_or lanes k.1 0))))
-      → 0 < length step
-      → IsGoing g lanes cores (marks_after marks step) seen' keys' (steps ++ step ∷ [])
-  going_on seen' keys' watched are some = record {
-    watched = watched;
-    done = subst (IsDone g (marks_after marks step)) (sym all_done) (done_next g marks (concat steps) step now.done runs);
-    keyed = λ k. (to k, from k);
-    each = λ i lt. kept i lt (cases_lt i (length steps));
-  }
+  step_once : IsDistinct nat_eq step
+  step_once = distinct_step lanes keys rising (λ k c. ((now.keyed k.0 k.1).0 c).1) cores
+
+  done_once : IsDistinct nat_eq (concat steps ++ step)
+  done_once = distinct_join (concat steps) step now.once step_once (λ v a b. (runs v b).waits a)
+
+  done_within : (v : ℕ) → Contains (concat steps ++ step) v → v < vertex_total g
+  done_within v c = elim (Contains-append_cases (concat steps) step v c) [ inl early ↦ now.within v early | inr late ↦ (runs v late).vertex ]
+
+  step_some : 1 ≤ cores → 0 < length keys → 0 < length step
+  step_some one some = omega (arith, length-map {A = ℕ × ℕ} {B = ℕ} (take cores keys) (λ k. k.1), length-take cores keys, one, some)
+
+  -- fewer vertices are left
+  pub falls_next : 1 ≤ cores → 0 < length keys → (stp : List ℕ) (next : Progress) → stp ≡ map (λ k. k.1) (take cores keys) → next.ran ≡ at.ran ++ stp → vertex_total g - length next.ran < vertex_total g - length at.ran
+  falls_next one some stp next e ran =
+      let at_long : length at.ran ≡ length (concat steps) = ap (λ (p : Progress). length p.ran) now.at_is in
+      let next_long : length next.ran ≡ length at.ran + length step = ap length ran ∙ length-append at.ran stp ∙ ap (λ (l : List ℕ). length at.ran + length l) e in
+      let le = few (concat steps ++ step) (vertex_total g) done_once done_within in
+      let both = length-append (concat steps) step in
+      let more = step_some one some in
+      omega (arith, at_long, next_long, le, both, more)
+
+  -- what was left, and what became ready
+  pub going_next : 1 ≤ cores → 0 < length keys → (stp freed : List ℕ) (next : Progress) (keys' : List (ℕ × ℕ)) (steps' : List (List ℕ)) → IsStep g lanes cores at keys stp freed keys'
+      → next.graph ≡ at.graph → next.ran ≡ at.ran ++ stp → steps' ≡ steps ++ stp ∷ [] → IsGoing g lanes cores next keys' steps'
+  going_next one some stp freed next keys' steps' is graph ran e =
+      subst (IsGoing g lanes cores next keys') (sym (e ∙ ap (λ x. steps ++ x ∷ []) is.first)) (record {
+        at_is = next_is;
+        keyed = subst (λ l. HasReady g (lane_in lanes) l (λ l v. Contains keys' (l, v))) (sym all_done) moved;
+        each = λ i lt. kept i lt (cases_lt i (length steps));
+        once = subst (IsDistinct nat_eq) (sym all_done) done_once;
+        within = λ v c. done_within v (subst (λ l. Contains l v) all_done c);
+      })
     where
+      graph_is : next.graph ≡ g
+      graph_is = graph ∙ ap (λ (p : Progress). p.graph) now.at_is
+
+      ran_is : next.ran ≡ concat (steps ++ step ∷ [])
+      ran_is = ran ∙ ap (λ (p : Progress). p.ran ++ stp) now.at_is ∙ ap (λ (l : List ℕ). concat steps ++ l) is.first ∙ sym all_done
+
+      next_is : next ≡ record { graph = g; ran = concat (steps ++ step ∷ []) }
+      next_is = λ i. record { graph = graph_is i; ran = ran_is i }
+
+      comes : (v : ℕ) → Contains freed v ↔ BecomesReady g (concat steps) (concat steps ++ step) v
+      comes =
+          subst (λ (l : List ℕ). (v : ℕ) → Contains freed v ↔ BecomesReady g (concat steps) (concat steps ++ l) v) is.first
+          (subst (λ (p : Progress). (v : ℕ) → Contains freed v ↔ BecomesReady p.graph p.ran (p.ran ++ stp) v) now.at_is is.comes)
+
+      -- a key that is left is one whose vertex is not in the step
+      left : (l v : ℕ) → Contains (drop cores keys) (l, v) → Contains step v → ⊥
+      left l v d r =
+          let j = from_map (take cores keys) v r in
+          let mine = (now.keyed l v).0 (in_drop keys cores (l, v) d) in
+          let lane = ((now.keyed j.0.0 j.0.1).0 (in_take keys cores j.0 j.1)).1 in
+          let same = pair_is j.0 (l, v) (lane ∙ ap (λ x. get_or lanes x 0) j.2 ∙ sym mine.1) j.2 in
+          apart keys cores (l, v) rising (subst (Contains (take cores keys)) same j.1) d
+
+      moved : HasReady g (lane_in lanes) (concat steps ++ step) (λ l v. Contains keys' (l, v))
+      moved = ready_next g (lane_in lanes) (concat steps) step freed (λ l v. Contains keys (l, v)) (λ l v. Contains keys' (l, v)) now.keyed comes (λ l v. (
+        λ c. elim ((is.are (l, v)).0 c) [ inl d ↦ inl (in_drop keys cores (l, v) d, left l v d) | inr f ↦ inr f ],
+        λ h. (is.are (l, v)).1 (elim h [
+          | inr f ↦ inr f
+          | inl stays ↦ elim (Contains-append_cases (take cores keys) (drop cores keys) (l, v) (subst (λ x. Contains x (l, v)) (sym (take-append-drop cores keys)) stays.0)) [
+            | inl early ↦ absurd (stays.1 (into_map (take cores keys) (l, v) early))
+            | inr late ↦ inl late
+          ]
+        ]),
+      ))
+
       planned : IsPlanned g lanes cores (concat steps) step
-      planned = record { keys = keys; ready = record { rising = rising; are = now.keyed }; first = refl; some = some }
+      planned = record { keys = keys; ready = record { rising = rising; are = λ k. now.keyed k.0 k.1 }; first = refl; some = step_some one some }
 
       kept : (i : ℕ) → i < length (steps ++ step ∷ []) → (i < length steps) ⊎ (length steps ≤ i) → IsPlanned g lanes cores (vertices_before (steps ++ step ∷ []) i) (get_or (steps ++ step ∷ []) i [])
       kept i lt (inl early) =
@@ -101,109 +197,20 @@ module _ (g : CostGraph) (lanes : List ℕ) (cores : ℕ) (marks : List Bool) (s
           let le : length steps ≤ length steps = omega arith in
           rw e (rw (take-append-le (length steps) steps (step ∷ []) le, take-length steps, get_or-append_seam steps step [] []) planned)
 
-      to : (k : ℕ × ℕ) → Contains keys' k → IsReady g (concat (steps ++ step ∷ [])) k.1 × (k.0 ≡ get_or lanes k.1 0)
-      to k c =
-          elim ((are k).0 c) [
-            | inl left ↦
-                let old = (now.keyed k).0 (in_drop keys cores k left) in
-                let out = λ (r : Contains step k.1).
-                let j = from_map (take cores keys) k.1 r in
-                let lane = ((now.keyed j.0).0 (in_take keys cores j.0 j.1)).1 in
-                let same = pair_is j.0 k (lane ∙ ap (λ x. get_or lanes x 0) j.2 ∙ sym old.1) j.2 in
-                apart keys cores k rising (subst (Contains (take cores keys)) same j.1) left in
-                (subst (λ l. IsReady g l k.1) (sym all_done) (then_ready g marks (concat steps) step now.done runs k.1 (inl (old.0, out))), old.1)
-            | inr freed ↦
-                (subst (λ l. IsReady g l k.1) (sym all_done) (then_ready g marks (concat steps) step now.done runs k.1 (inr freed.0)), freed.1)
-          ]
+none_twice : IsDistinct nat_eq []
+unfolding IsDistinct
+none_twice = tt
 
-      from : (k : ℕ × ℕ) → IsReady g (concat (steps ++ step ∷ [])) k.1 × (k.0 ≡ get_or lanes k.1 0) → Contains keys' k
-      from k h =
-          (are k).1 (elim (ready_then g marks (concat steps) step now.done runs k.1 (subst (λ l. IsReady g l k.1) all_done h.0)) [
-            | inr freed ↦ inr (freed, h.1)
-            | inl stays ↦
-                let had = (now.keyed k).1 (stays.0, h.1) in
-                elim (Contains-append_cases (take cores keys) (drop cores keys) k (subst (λ l. Contains l k) (sym (take-append-drop cores keys)) had)) [
-                  | inl early ↦ absurd (stays.1 (into_map (take cores keys) k early))
-                  | inr late ↦ inl late
-                ]
-          ])
-
-no_marks : (n v : ℕ) → get_or (replicate n false) v false ≡ false
-no_marks zero v = refl
-no_marks (suc n) zero = refl
-no_marks (suc n) (suc v) = no_marks n v
-
-no_seen : (n v : ℕ) → get_or {A = ℕ} (replicate n 0) v 0 ≡ 0
-no_seen zero v = refl
-no_seen (suc n) zero = refl
-no_seen (suc n) (suc v) = no_seen n v
-
-pub starting : (g : CostGraph) (lanes : List ℕ) (cores n : ℕ) (keys : List (ℕ × ℕ)) → n ≡ vertex_total g
-    → ((k : ℕ × ℕ) → Contains keys k ↔ (Contains [] k ⊎ (Contains (filter (λ v. length (parents_at g v) == 0) (range_with_len 0 (vertex_total g))) k.1 × (k.0 ≡ get_or lanes k.1 0))))
-    → IsGoing g lanes cores (replicate n false) (replicate n 0) keys []
-starting g lanes cores n keys e are = record {
-  watched = record {
-    marks_fit = length-replicate n false ∙ e;
-    seen_fit = length-replicate n 0 ∙ e;
-    within = λ v lt. omega (arith, no_seen n v);
-    marked = λ v k lt below. absurd (omega (arith, below, no_seen n v));
-  };
-  done = record {
-    size = length-replicate n false ∙ e;
-    agree = λ v. (λ m. absurd (both_ways _ (no_marks n v) m), λ c. absurd (no_member v c));
-    closed = λ u v d c. absurd (no_member v c);
-  };
-  keyed = λ k. (
-    λ c. elim ((are k).0 c) [
-      | inl z ↦ absurd (no_member k z)
-      | inr p ↦ (
-        record {
-          vertex = All-contains (λ v. v < vertex_total g) (range_with_len 0 (vertex_total g)) k.1 (numbers_below (vertex_total g)) (out_filter test (range_with_len 0 (vertex_total g)) k.1 p.0);
-          waits = no_member k.1;
-          parents = λ u d. absurd (no_member_short (parents_at g k.1) u (from_filter test (range_with_len 0 (vertex_total g)) k.1 p.0) d);
-        },
-        p.1,
-      )
-    ],
-    λ h. (are k).1 (inr (in_filter test (range_with_len 0 (vertex_total g)) k.1 (in_all k.1 h.0.vertex) (short_from_none (parents_at g k.1) (λ u d. no_member u (h.0.parents u d))), h.1)),
-  );
+-- at the start the keys are those of what is ready
+pub starting : (g : CostGraph) (lanes : List ℕ) (cores : ℕ) (at : Progress) (found : List ℕ) (keys : List (ℕ × ℕ)) → at ≡ record { graph = g; ran = [] } → ((v : ℕ) → Contains found v ↔ IsReady at.graph at.ran v)
+    → ((k : ℕ × ℕ) → Contains keys k ↔ (Contains [] k ⊎ (Contains found k.1 × (k.0 ≡ get_or lanes k.1 0)))) → IsGoing g lanes cores at keys []
+starting g lanes cores at found keys e are keyed = record {
+  at_is = e;
+  keyed = ready_first g (lane_in lanes) [] found (λ l v. Contains keys (l, v)) (subst (λ (p : Progress). (v : ℕ) → Contains found v ↔ IsReady p.graph p.ran v) e are) (λ l v. (
+    λ c. elim ((keyed (l, v)).0 c) [ inl z ↦ absurd (no_member (l, v) z) | inr h ↦ h ],
+    λ h. (keyed (l, v)).1 (inr h),
+  ));
   each = λ i lt. absurd (omega (arith, lt));
+  once = none_twice;
+  within = λ v c. absurd (no_member v c);
 }
-  where
-    test : ℕ → Bool
-    test v = length (parents_at g v) == 0
-
-    in_all : (v : ℕ) → v < vertex_total g → Contains (range_with_len 0 (vertex_total g)) v
-    in_all v lt =
-        let low : 0 ≤ v = omega arith in
-        let high : v < 0 + vertex_total g = omega (arith, lt) in
-        in_range 0 (vertex_total g) v low high
-
--- the same by equations, as a body has them
-pub going_next : (g : CostGraph) (lanes : List ℕ) (cores : ℕ) (marks : List Bool) (seen : List ℕ) (keys : List (ℕ × ℕ)) (steps : List (List ℕ)) → IsGoing g lanes cores marks seen keys steps → IsStrictlySortedBy pair_cmp keys → 1 ≤ cores → 0 < length keys
-    → (stp : List ℕ) (marks' : List Bool) (seen' : List ℕ) (freed : List ℕ) (left keys' : List (ℕ × ℕ)) (steps' : List (List ℕ))
-    → stp ≡ map (λ k. k.1) (take cores keys) → left ≡ drop cores keys → marks' ≡ marks_after marks stp → freed ≡ freed_by g marks stp → IsSeen g marks' seen'
-    → ((k : ℕ × ℕ) → Contains keys' k ↔ (Contains left k ⊎ (Contains freed k.1 × (k.0 ≡ get_or lanes k.1 0)))) → steps' ≡ steps ++ stp ∷ []
-    → IsGoing g lanes cores marks' seen' keys' steps'
-going_next g lanes cores marks seen keys steps now rising one some stp marks' seen' freed left keys' steps' e1 e2 e3 e4 watched are e5 =
-    let E : List ℕ = map (λ k. k.1) (take cores keys) in
-    let m : marks' ≡ marks_after marks E = e3 ∙ ap (marks_after marks) e1 in
-    let f : freed ≡ freed_by g marks E = e4 ∙ ap (freed_by g marks) e1 in
-    let s : steps' ≡ steps ++ E ∷ [] = e5 ∙ ap (λ x. steps ++ x ∷ []) e1 in
-    let w : IsSeen g (marks_after marks E) seen' = subst (λ x. IsSeen g x seen') m watched in
-    let a : (k : ℕ × ℕ) → Contains keys' k ↔ (Contains (drop cores keys) k ⊎ (Contains freed k.1 × (k.0 ≡ get_or lanes k.1 0))) =
-    subst (λ x. (k : ℕ × ℕ) → Contains keys' k ↔ (Contains x k ⊎ (Contains freed k.1 × (k.0 ≡ get_or lanes k.1 0)))) e2 are in
-    let b = subst (λ x. (k : ℕ × ℕ) → Contains keys' k ↔ (Contains (drop cores keys) k ⊎ (Contains x k.1 × (k.0 ≡ get_or lanes k.1 0)))) f a in
-    let size : 0 < length E = omega (arith, length-map {A = ℕ × ℕ} {B = ℕ} (take cores keys) (λ k. k.1), length-take cores keys, one, some) in
-    subst (λ x. IsGoing g lanes cores x seen' keys' steps') (sym m) (subst (λ x. IsGoing g lanes cores (marks_after marks E) seen' keys' x) (sym s) (going_on g lanes cores marks seen keys steps now rising seen' keys' w b size))
-
-pub falls_next : (g : CostGraph) (lanes : List ℕ) (cores : ℕ) (marks : List Bool) (seen : List ℕ) (keys : List (ℕ × ℕ)) (steps : List (List ℕ)) → IsGoing g lanes cores marks seen keys steps → IsStrictlySortedBy pair_cmp keys → 1 ≤ cores → 0 < length keys
-    → (stp : List ℕ) (marks' : List Bool) → stp ≡ map (λ k. k.1) (take cores keys) → marks' ≡ marks_after marks stp → unmarked marks' < unmarked marks
-falls_next g lanes cores marks seen keys steps now rising one some stp marks' e1 e3 =
-    let E : List ℕ = map (λ k. k.1) (take cores keys) in
-    let m : marks' ≡ marks_after marks E = e3 ∙ ap (marks_after marks) e1 in
-    let size : 0 < length E = omega (arith, length-map {A = ℕ × ℕ} {B = ℕ} (take cores keys) (λ k. k.1), length-take cores keys, one, some) in
-    subst (λ x. unmarked x < unmarked marks) (sym m)
-    (falls E marks
-    (λ v c. subst (λ n. v < n) (sym now.done.size) (runs_in g lanes cores marks seen keys steps now rising v c))
-    (λ v c h. (runs g lanes cores marks seen keys steps now rising v c).waits ((now.done.agree v).0 h)) size)

@@ -1,11 +1,11 @@
 -- A graph has at most one canonical plan: its lanes are one list, and by them there is one plan.
-use Rattle.std.proofs.Common.{◌≡◌, ℕ, ◌<◌, List, length, get_or, sym, ◌∙◌, subst, arith}
+use Rattle.std.proofs.Common.{◌≡◌, ℕ, ◌<◌, List, get_or, sym, ◌∙◌, subst, arith}
 use Rattle.std.proofs.lemmas.List.{ext_get_or}
 use Rattle.priority_order.specs.Order.{HasLane}
 use Rattle.priority_order.proofs.Placed.{stands, one_place}
 use Rattle.cost_graph.specs.Graph.{CostGraph, vertex_total, vertex_priority}
 use Rattle.prompt_checker.specs.Plan.{IsPlan}
-use Rattle.prompt_planner.specs.Lanes.{AreLanesOf, IsCanonical}
+use Rattle.prompt_planner.specs.Lanes.{AreLanesOf}
 use Rattle.prompt_planner.specs.Laws.{OneCanonicalPlan}
 use Rattle.prompt_planner.proofs.Unique.{plan_unique}
 

@@ -1,24 +1,22 @@
 -- The canonical plan is prompt.
-use Rattle.std.proofs.Common.{◌≡◌, ℕ, zero, suc, ◌<◌, ◌≤◌, false, List, [], ◌∷◌, length, take, drop, get_or, map, min, refl, sym, ap, ◌∙◌, subst, inl, inr, arith, Ordering}
+use Rattle.std.proofs.Common.{◌≡◌, ℕ, zero, suc, ◌<◌, ◌≤◌, List, [], ◌∷◌, length, take, drop, get_or, min, refl, sym, ap, ◌∙◌, subst, inl, inr, arith, Ordering}
 use Rattle.std.specs.Prelude.{nat_eq}
 use Rattle.std.specs.declared.cmp.Ordering.TheVariants.{Less, Equal, Greater}
-use Rattle.std.specs.List.{concat, Contains, IsDistinct, AllByRecursion}
+use Rattle.std.specs.List.{concat, Contains, IsDistinct}
 use Rattle.std.specs.List.Sorted.{IsStrictlySortedBy}
 use Rattle.std.specs.Ordering.{nat_cmp, ordering_then}
 use Rattle.std.proofs.lemmas.Cmp.{ranked}
 use Rattle.std.proofs.lemmas.List.Elements.{Contains-append_cases, All-contains, All-from_recursion}
 use Rattle.std.proofs.lemmas.List.{take-append-drop, length-map, length-take, length-drop}
-use Rattle.std.proofs.lemmas.Bool.{ne_eqb}
 use Rattle.std.proofs.Math.Seq.{take-length}
 use Rattle.cost_graph.specs.Walks.{HasNoCycle}
 use Rattle.cost_graph.specs.Graph.{CostGraph, vertex_total, parents_at, Edge, IsGraph}
 use Rattle.cost_graph.specs.Marks.{IsReady}
 use Rattle.prompt_checker.specs.Plan.{IsPlan, pair_cmp}
 use Rattle.prompt_checker.specs.Schedule.{vertices_before}
-use Rattle.cost_graph.proofs.Members.{distinct_join, parents_seen, member_or_not, no_member, member_cons, member_head, member_tail, in_drop, in_take}
+use Rattle.cost_graph.proofs.Members.{distinct_join, parents_seen, member_or_not, no_member, member_cons, in_drop, in_take}
 use Rattle.prompt_checker.proofs.Steps.{before_more}
-use Rattle.prompt_planner.proofs.Keys.{pair_is}
-use Rattle.prompt_planner.proofs.Going.{same_pair, from_map, into_map}
+use Rattle.prompt_planner.proofs.Going.{from_map, into_map, distinct_step}
 use Rattle.prompt_checker.specs.Schedule.{step_at, IsPrompt}
 use Rattle.cost_graph.proofs.Cycles.{stuck_has_cycle}
 
@@ -40,26 +38,6 @@ sorted_apart (x ∷ xs) (suc n) k j s a b =
       | inl e ↦ subst (λ y. pair_cmp y j ≡ Less) e (All-contains (λ y. pair_cmp x y ≡ Less) xs j (All-from_recursion (λ y. pair_cmp x y ≡ Less) xs s.0) (in_drop xs n j b))
       | inr late ↦ sorted_apart xs n k j s.1 late b
     ]
-
-distinct_step : (lanes : List ℕ) (keys : List (ℕ × ℕ)) → IsStrictlySortedBy pair_cmp keys → ((k : ℕ × ℕ) → Contains keys k → k.0 ≡ get_or lanes k.1 0) → (n : ℕ) → IsDistinct nat_eq (map (λ k. k.1) (take n keys))
-unfolding IsStrictlySortedBy IsDistinct
-distinct_step lanes [] s lane zero = tt
-distinct_step lanes [] s lane (suc n) = tt
-distinct_step lanes (x ∷ xs) s lane zero = tt
-distinct_step lanes (x ∷ xs) s lane (suc n) =
-    (apart (take n xs) (λ k c. in_take xs n k c), distinct_step lanes xs s.1 (λ k c. lane k (member_tail x xs k c)) n)
-  where
-    other : (y : ℕ × ℕ) → Contains xs y → x.1 ≡ y.1 → ⊥
-    other y c e =
-        let first = lane x (member_head x xs) ∙ ap (λ v. get_or lanes v 0) e ∙ sym (lane y (member_tail x xs y c)) in
-        let same = pair_is x y first e in
-        let less = All-contains (λ z. pair_cmp x z ≡ Less) xs y (All-from_recursion (λ z. pair_cmp x z ≡ Less) xs s.0) c in
-        let tied = subst (λ z. pair_cmp x z ≡ Equal) same (same_pair x) in
-        cc (less, tied)
-
-    apart : (ys : List (ℕ × ℕ)) → ((k : ℕ × ℕ) → Contains ys k → Contains xs k) → AllByRecursion (λ v. nat_eq x.1 v ≡ false) (map (λ k. k.1) ys)
-    apart [] sub = tt
-    apart (y ∷ ys) sub = (ne_eqb x.1 y.1 (other y (sub y (member_head y ys))), apart ys (λ k c. sub k (member_tail y ys k c)))
 
 module _ (g : CostGraph) (lanes : List ℕ) (cores : ℕ) (steps : List (List ℕ)) (plan : IsPlan g lanes cores steps) (shape : IsGraph g) (acyclic : HasNoCycle (Edge g))
     (below : ℕ → ℕ → Type 0) (lane_below : (v u : ℕ) → v < vertex_total g → u < vertex_total g → below v u → get_or lanes u 0 < get_or lanes v 0) where

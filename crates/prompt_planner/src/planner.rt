@@ -8,7 +8,7 @@ ghost use Rattle.prompt_checker.specs.Read.{steps_of};
 ghost use Rattle.prompt_planner.specs.Lanes.{LanesFit, IsCanonical};
 
 use crate::lanes::lanes_of;
-use cost_graph::{Graph, run_step, sources};
+use cost_graph::{Frontier, Graph};
 use priority_order::Order;
 use prompt_checker::Schedule;
 use std::alloc::{AllocError, Global};
@@ -62,16 +62,15 @@ pub fn plan_by_lanes(
     ensures unique { IfOk result (λ s. (other : List (List ℕ)) → IsPlan graph.now lanes.now cores other → other ≡ steps_of s) }
     ensures prompt { IfOk result (λ s. (pairs : List (ℕ × ℕ)) → IsAcyclic graph.now → LanesFit graph.now pairs lanes.now → IsPrompt graph.now (IsVertexBelow graph.now pairs) cores (steps_of s)) }
 {
-    let count = graph.vertex_count() as usize;
-    let mut marks = vec![in alloc; false; count]?;
-    let mut seen = vec![in alloc; 0usize; count]?;
+    let _count = graph.vertex_count();
+    let mut frontier = Frontier::start(alloc, graph)?;
     let mut ready = BTreeSet::new(alloc);
-    let start = sources(alloc, graph)?;
+    let start = frontier.ready(alloc)?;
     add_ready(&mut ready, lanes, &start)?;
     let mut steps = Vec::new(alloc);
     'steps: while ready.len() > 0 {
         let step = take_first(alloc, &mut ready, cores)?;
-        let freed = run_step(alloc, graph, &mut marks, &mut seen, &step)?;
+        let freed = frontier.step(alloc, &step)?;
         add_ready(&mut ready, lanes, &freed)?;
         steps.push(step)?;
     }

@@ -3,4 +3,4 @@ use Rattle.prompt_checker.specs.Watch.{IsEarly}
 use Rattle.prompt_checker.proofs.marks.first_early.Given as goal
 
 abbrev pub invariant-loop-vertex : goal.invariant-loop-vertex
-invariant-loop-vertex l = (k : ℕ) → k < l.vertex-index → IsEarly l.graph l.marks.items k (get_or l.line.items k 0) → ⊥
+invariant-loop-vertex l = (k : ℕ) → k < l.vertex-index → IsEarly l.frontier.graph l.frontier.ran k (get_or l.line.items k 0) → ⊥

@@ -1,6 +1,6 @@
-use Rattle.std.proofs.Common.{◌≡◌, ℕ, ◌<◌, false}
-use Rattle.cost_graph.specs.Marks.{is_marked}
+use Rattle.std.proofs.Common.{ℕ, ◌<◌}
+use Rattle.std.specs.List.{Contains}
 use Rattle.prompt_checker.proofs.marks.first_missing.Given as goal
 
-abbrev pub invariant-loop-v : goal.invariant-loop-v
-invariant-loop-v l = (k : ℕ) → k < l.v → is_marked l.marks.items k ≡ false → ⊥
+abbrev pub invariant-loop-vertex : goal.invariant-loop-vertex
+invariant-loop-vertex l = (k : ℕ) → k < l.vertex → (Contains l.frontier.ran k → ⊥) → ⊥

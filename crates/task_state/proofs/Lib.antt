@@ -3,3 +3,5 @@ mod States
 mod Steps
 mod Runs
 mod Pieces
+mod Books
+mod BookMeaning

@@ -11,9 +11,10 @@ use Rattle.priority_order.specs.Order.{AtMost}
 use Rattle.core_steps.specs.Steps.{Job, awaits, outcome_in}
 use Rattle.core_steps.specs.Config.{Thread, thread_at, Reached, IsFinished, WaitsOn}
 use Rattle.core_steps.specs.Determined.{events_in, events_of, IsIn, HasEnded, one_live, unended}
-use Rattle.core_steps.specs.Laws.{EachIsDetermined, ThreadsAreSpawned, ChildrenAreIn, Counts, AwaitsSafely}
+use Rattle.core_steps.specs.Laws.{EachIsDetermined, ThreadsAreSpawned, ChildrenAreIn, AwaitedAreIn, Counts, AwaitsSafely}
 use Rattle.core_steps.proofs.StepFacts.{ended_or_live}
 use Rattle.core_steps.proofs.Named.{named, spawns_append, push_not_nil}
+use Rattle.core_steps.proofs.StepNames.{awaited_named}
 use Rattle.core_steps.proofs.OneState.{leads}
 use Rattle.core_steps.proofs.Endings.{ended_last, last_ended, live_or}
 use Rattle.core_steps.proofs.Threads.{same_or_not, found_first, found_behind}
@@ -48,6 +49,10 @@ children_are_in job c q es s n r d l m = go (thread_at c q) refl
         let z : events_of c q ≡ t.events = ap events_in e in
         let x = leads (k.ran q t e) es s d (omega (arith, l, ap length z)) in
         k.children q n (omega (arith, m, (named d).children, spawns_append es x.rest, ap spawns x.joins, ap spawns z))
+
+-- what a thread awaits is there, for a state names only threads that are
+pub awaited_are_in : (job : Job) → AwaitedAreIn job
+awaited_are_in job c p b t r e a = let k : Closed job c = reached_closed job c r in awaited_named (IsIn c) t.state b (k.names p t e) a
 
 -- no thread is left that has not ended, exactly where each has
 none_left : (c : List Thread) → unended c ≡ 0 → IsFinished c

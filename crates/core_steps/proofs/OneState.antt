@@ -10,7 +10,7 @@ use Rattle.priml_syntax.specs.Tree.{Routine}
 use Rattle.priml_syntax.specs.Values.{Outcome'}
 use Rattle.priml_syntax.specs.Events.{one_spawn, spawns}
 use Rattle.core_steps.specs.Steps.{Job, Ended, State, Moved, step, awaits, outcome_in, root_state, Ran, root, born, alone, joined}
-use Rattle.core_steps.specs.Laws.{OneState}
+use Rattle.core_steps.specs.Laws.{OneState, ChildPrio, OneEnd}
 use Rattle.core_steps.proofs.StepFacts.{step_facts, child_facts, live_before, free_step}
 use Rattle.core_steps.proofs.Named.{Named, named, spawns_append}
 use Rattle.core_steps.proofs.Extends.{Extends, at_end_or_steps, at_end, more, Cut, cut, length_pushed, below_or}
@@ -181,3 +181,11 @@ one_state job = record {
   named = λ p es s d. (named d).path;
   prio = same_prio job;
 }
+
+-- a child begins in the state that its Spawn gives
+pub child_prio : (job : Job) → ChildPrio job
+child_prio job q es fs s c t m d a e h f = same_prio job c.path fs [] t c f (born d a e h refl refl refl)
+
+-- two ends of a thread are one
+pub one_end : (job : Job) → OneEnd job
+one_end job b o q x y = same_outcome o q (leads x.2) y.2 x.3 y.3

@@ -9,7 +9,7 @@ use Rattle.priml_syntax.specs.Events.{spawns, ends, AllJoins}
 use Rattle.core_steps.specs.Steps.{Job, State, Moved, step, awaits, Ran, alone, joined, outcome_in}
 use Rattle.core_steps.specs.Config.{Thread, handed, after, Reached}
 use Rattle.core_steps.specs.Determined.{EndsWith, Fed, Trace, here, next, events_in, events_of, IsIn, HasEnded}
-use Rattle.core_steps.specs.Laws.{Grown, SegmentsReach, EndedStops}
+use Rattle.core_steps.specs.Laws.{Grown, SegmentsReach, EndedStops, TracesDetermine}
 use Rattle.core_steps.proofs.StepFacts.{joins_awaited, ended_phase, ended_stops}
 use Rattle.core_steps.proofs.Named.{spawns_append}
 use Rattle.core_steps.proofs.OneState.{leads, ended_rest, same_outcome, unique}
@@ -26,6 +26,9 @@ traced (next {fs = fs} None m tr fed st e q) =
 traced (next {fs = fs} (Some o) m tr (b, w, x) st e q) =
     let r = traced tr in
     (r.0, r.1, joined r.2 x.2 w x.3 st (ap (λ xs. r.0 ++ xs) e ∙ sym (append_assoc r.0 fs (m.event ∷ []))) q)
+
+pub traces_determine : (job : Job) → TracesDetermine job
+traces_determine job p n es s tr = let r = traced tr in (r.0 ++ es, omega (arith, r.1, length-append r.0 es), r.2)
 
 ends_append : (es fs : List Event) → ends (es ++ fs) ≡ ends es + ends fs
 ends_append [] fs = omega arith

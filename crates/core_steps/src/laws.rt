@@ -1,5 +1,5 @@
 ghost use Rattle.core_steps.specs.Steps.{Job};
-ghost use Rattle.core_steps.specs.Laws.{CheckedLaws, CoreLaws, IsChecked};
+ghost use Rattle.core_steps.specs.Laws.{CheckedLaws, CoreLaws, IsChecked, MeaningReadsInputs};
 
 /// What holds of the threads of every job.
 pub fn core_laws()
@@ -9,4 +9,9 @@ pub fn core_laws()
 /// What holds of the threads of a checked job.
 pub fn checked_laws()
     ensures { (job : Job) → IsChecked job → CheckedLaws job }
+{}
+
+/// The serial meaning of a program is the same for inputs in which each path has the same list.
+pub fn input_law()
+    ensures { MeaningReadsInputs }
 {}

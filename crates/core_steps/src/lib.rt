@@ -17,6 +17,6 @@ mod step;
 pub use config::{Config, CoreStop, Slot};
 pub use expressions::evaluate;
 pub use frame::{Frame, Root};
-pub use laws::{checked_laws, core_laws};
+pub use laws::{checked_laws, core_laws, input_law};
 pub use local::{Local, Mode, Moved, Next};
 pub use place::Turn;

@@ -319,7 +319,7 @@ over_at job checked n limit ss xs c some l = go (meaning job limit) refl
     longer rs e =
         let x = laws.always_a_step c.threads (n, c.reached) (unfinished xs c.stack.each some) in
         let r : ReachedIn job (n + 1) x.1 = (c.reached.0 ++ x.0 ∷ [], omega (arith, c.reached.1, length-append c.reached.0 (x.0 ∷ [])), followed_append job (begin job) c.threads x.1 c.reached.0 (x.0 ∷ []) c.reached.2 x.2) in
-        let b = laws.bounded.never_longer x.1 rs limit (n + 1, r) e in
+        let b = (core_laws job).bounded.never_longer x.1 rs limit (n + 1, r) e in
         omega (arith, b.0, b.1, (core_laws job).counts.steps x.1 (n + 1) r, l)
 
     go : (m : Meaning) → meaning job limit ≡ m → meaning job limit ≡ Over
@@ -349,9 +349,8 @@ none_at_end job n ss c is told = told (subst IsFinished (same_Some c.threads is.
 -- below 2 ^ 32 steps the records are those of a finished job
 pub finished_below : (job : Job) → IsChecked job → (limit : ℕ) (rs : List Entry) → meaning job limit ≡ Finished rs → limit < 2 ^ 32 → AreFinished (parts_of rs)
 finished_below job checked limit rs e l =
-    let laws : CheckedLaws job = checked_laws job checked in
-    let within : work rs ≤ limit = (laws.bounded.never_longer (begin job) rs limit (core_laws job).starts.reached e).1 in
-    (laws.graphs.meant rs limit e).finished (omega (arith, within, l))
+    let within : work rs ≤ limit = ((core_laws job).bounded.never_longer (begin job) rs limit (core_laws job).starts.reached e).1 in
+    ((checked_laws job checked).graphs.meant rs limit e).finished (omega (arith, within, l))
 
 -- what an answer promises may be weakened
 pub on_ok : {X E : Type 0} (r : Result X E) (P Q : Type 0) → (P → Q) → OnOk r P → OnOk r Q

@@ -1,5 +1,6 @@
 pub mod Known
 pub mod LineForms
+pub mod LinesDecided
 pub mod Numbers
 pub mod Pairs
 pub mod PathForms

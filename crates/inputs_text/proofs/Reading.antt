@@ -2,6 +2,7 @@
 use Rattle.std.proofs.Common.{◌≡◌, ◌≢◌, ℕ, suc, ◌+◌, ◌<◌, ℤ, List, [], ◌∷◌, ◌++◌, length, take, drop, get_or, map, Option, None, Some, Result, Ok, Err, IfErr, refl, sym, ap, subst, ◌∙◌, inl, inr, ◌⊎◌, arith, append-nil, take-append-drop, drop-cons, length-take, length-append}
 use Rattle.std.specs.Result.{IsErrAnd}
 use Rattle.std.proofs.lemmas.List.{map-append}
+pub use Rattle.priml_io.proofs.Places.{Places, same_place, comes_before, comes_after, places}
 use Rattle.priml_syntax.specs.Inputs.{IsNoneOf, NoPathTwice}
 use Rattle.inputs_text.specs.declared.inputs.InputFault.{InputFault}
 use Rattle.inputs_text.specs.declared.inputs.InputFault.TheVariants as fault
@@ -152,26 +153,6 @@ fault-clash before line after lists all k (fault.TwicePath n) i j (e, (given, h,
 
 pub inputs-clash : (ls : List (List ℕ)) (all : List (List ℕ × List ℤ)) (f : InputFault) → IsInputs ls all → IsFirstFault ls f → ⊥
 inputs-clash ls all f i h = fault-clash h.before h.line h.after h.lists all (length h.before + 1) f h.right (rw h.is at i) h.wrong
-
--- two places of one list: the same, or one before the other
-pub data Places {A : Type 0} (a : List A) (x : A) (c : List A) (y : A) : Type 0 where
-  same_place : a ≡ c → x ≡ y → Places a x c y
-  comes_before : (m : List A) → c ≡ a ++ x ∷ m → Places a x c y
-  comes_after : (m : List A) → a ≡ c ++ y ∷ m → Places a x c y
-
-pub places : {A : Type 0} (a : List A) (x : A) (b c : List A) (y : A) (d : List A) → a ++ x ∷ b ≡ c ++ y ∷ d → Places a x c y
-places [] x b [] y d e = let s : x ≡ y = cc in same_place refl s
-places [] x b (z ∷ c) y d e = let s : z ≡ x = cc in comes_before c (ap (λ v. v ∷ c) s)
-places (w ∷ a) x b [] y d e = let s : w ≡ y = cc in comes_after a (ap (λ v. v ∷ a) s)
-places (w ∷ a) x b (z ∷ c) y d e =
-    let head : w ≡ z = cc in
-    let tail : a ++ x ∷ b ≡ c ++ y ∷ d = cc in
-    go head (places a x b c y d tail)
-  where
-    go : w ≡ z → Places a x c y → Places (w ∷ a) x (z ∷ c) y
-    go h (same_place s t) = same_place (ap (λ v. v ∷ a) h ∙ ap (λ v. z ∷ v) s) t
-    go h (comes_before m s) = comes_before m (ap (λ v. z ∷ v) s ∙ ap (λ v. v ∷ (a ++ x ∷ m)) (sym h))
-    go h (comes_after m s) = comes_after m (ap (λ v. w ∷ v) s ∙ ap (λ v. v ∷ (c ++ y ∷ m)) h)
 
 -- a line is at fault in one way
 fault-one : (k : ℕ) (line : List ℕ) (lists : List (List ℕ × List ℤ)) (f g : InputFault) → IsFaultAt k line lists f → IsFaultAt k line lists g → f ≡ g

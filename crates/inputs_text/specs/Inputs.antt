@@ -55,3 +55,7 @@ pub record ReadsOneWay (ls : List (List ℕ)) : Type 0 where
   pub one : (a b : List (List ℕ × List ℤ)) → IsInputs ls a → IsInputs ls b → a ≡ b
   pub first : (f g : InputFault) → IsFirstFault ls f → IsFirstFault ls g → f ≡ g
   pub apart : (a : List (List ℕ × List ℤ)) (f : InputFault) → IsInputs ls a → IsFirstFault ls f → ⊥
+
+-- all lines are inputs or have a first fault
+abbrev pub LinesAreRead : Type 0
+LinesAreRead = (ls : List (List ℕ)) → ((lists : List (List ℕ × List ℤ)) × IsInputs ls lists) ⊎ ((f : InputFault) × IsFirstFault ls f)

@@ -1,3 +1,4 @@
+pub mod Decided
 pub mod Numbers
 pub mod Sound
 pub mod Steps

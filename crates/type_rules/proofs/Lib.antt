@@ -9,3 +9,6 @@ pub mod Parts
 pub mod InScope
 pub mod Written
 pub mod OneFault
+pub mod TypeForms
+pub mod BodiesDecided
+pub mod TypesDecided

@@ -1,7 +1,8 @@
 -- Typable programs, and the first fault of any other.
-use Rattle.std.specs.Prelude.{◌≡◌, ◌≢◌, ℕ, suc, List, [], ◌∷◌, ◌++◌, map}
+use Rattle.std.specs.Prelude.{◌≡◌, ◌≢◌, ◌⊎◌, ℕ, suc, List, [], ◌∷◌, ◌++◌, map}
 use Rattle.std.specs.List.{All}
 use Rattle.priml_syntax.specs.Tree.{Type', Routine, Declared, Tree, pairs_of}
+use Rattle.priml_syntax.specs.Scoped.{IsScoped}
 use Rattle.priority_order.specs.Order.{IsLawful, Closes}
 use Rattle.type_rules.specs.declared.TypeKind.{TypeKind}
 use Rattle.type_rules.specs.declared.TypeKind.TheVariants.{Cycle, Mismatch}
@@ -85,3 +86,7 @@ HasOneTypeFault = (p : Tree) (k l : TypeKind) (a b : ℕ) → HasTypeFault p k a
 -- no program with a type fault is typable
 abbrev pub IsUntypable : Type 0
 IsUntypable = (p : Tree) (k : TypeKind) (at : ℕ) → HasTypeFault p k at → Typable p → ⊥
+
+-- every program in scope is typable or has a type fault
+abbrev pub EachIsTypedOrFaulty : Type 0
+EachIsTypedOrFaulty = (p : Tree) → IsScoped p → Typable p ⊎ ((k : TypeKind) × (at : ℕ) × HasTypeFault p k at)

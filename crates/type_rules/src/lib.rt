@@ -12,7 +12,7 @@ mod term;
 
 pub use checked::{Checked, check};
 pub use job::Job;
-pub use laws::{at_most_one_fault, faults_are_untypable};
+pub use laws::{at_most_one_fault, each_is_typed_or_faulty, faults_are_untypable};
 use std::alloc::AllocError;
 
 /// What is wrong at a place. Of several kinds at one place the first in this list is told.

@@ -7,4 +7,12 @@ pub mod Leaves
 pub mod Chain
 pub mod Records
 pub mod Runs
+pub mod Decimal
+pub mod Pieces
+pub mod Names
+pub mod Lexing
+pub mod Sample
+pub mod Lexed
+pub mod Derived
+pub mod Stood
 pub mod Source

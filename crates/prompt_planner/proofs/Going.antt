@@ -4,6 +4,7 @@ use Rattle.std.specs.Prelude.{nat_eq}
 use Rattle.std.specs.declared.cmp.Ordering.TheVariants.{Less, Equal}
 use Rattle.std.specs.List.{concat, Contains, IsDistinct, AllByRecursion}
 use Rattle.std.specs.List.Sorted.{IsStrictlySortedBy}
+use Rattle.std.specs.Cmp.{IsTotalOrder}
 use Rattle.std.proofs.lemmas.Cmp.{tied_itself, nat_cmp_total, then_total, on_total}
 use Rattle.std.proofs.lemmas.List.Elements.{Contains-append_cases, All-contains, All-from_recursion}
 use Rattle.std.proofs.lemmas.List.{append-nil, take-append-drop, take-append-le, length-append, length-map, length-take}
@@ -22,8 +23,11 @@ use Rattle.prompt_checker.specs.Schedule.{vertices_before}
 use Rattle.prompt_checker.proofs.Steps.{concat_append}
 use Rattle.prompt_planner.proofs.Keys.{pair_is}
 
+pub pair_total : IsTotalOrder pair_cmp
+pair_total = then_total (on_total (λ (p : ℕ × ℕ). p.0) nat_cmp_total) (on_total (λ (p : ℕ × ℕ). p.1) nat_cmp_total)
+
 pub same_pair : (a : ℕ × ℕ) → pair_cmp a a ≡ Equal
-same_pair a = tied_itself (then_total (on_total (λ (p : ℕ × ℕ). p.0) nat_cmp_total) (on_total (λ (p : ℕ × ℕ). p.1) nat_cmp_total)) a
+same_pair a = tied_itself pair_total a
 
 apart : (keys : List (ℕ × ℕ)) (n : ℕ) (k : ℕ × ℕ) → IsStrictlySortedBy pair_cmp keys → Contains (take n keys) k → Contains (drop n keys) k → ⊥
 unfolding IsStrictlySortedBy
@@ -80,19 +84,20 @@ distinct_step lanes (x ∷ xs) s lane (suc n) =
 abbrev pub lane_in : List ℕ → ℕ → ℕ
 lane_in lanes v = get_or lanes v 0
 
-pub record IsGoing (g : CostGraph) (lanes : List ℕ) (cores : ℕ) (at : Progress) (keys : List (ℕ × ℕ)) (steps : List (List ℕ)) : Type 0 where
-  pub at_is : at ≡ record { graph = g; ran = concat steps }
-  pub keyed : HasReady g (lane_in lanes) (concat steps) (λ l v. Contains keys (l, v))
+-- the steps so far are planned, each vertex once
+pub record IsBegun (g : CostGraph) (lanes : List ℕ) (cores : ℕ) (steps : List (List ℕ)) : Type 0 where
   pub each : (i : ℕ) → i < length steps → IsPlanned g lanes cores (vertices_before steps i) (get_or steps i [])
   pub once : IsDistinct nat_eq (concat steps)
   pub within : (v : ℕ) → Contains (concat steps) v → v < vertex_total g
 
+pub record IsGoing (g : CostGraph) (lanes : List ℕ) (cores : ℕ) (at : Progress) (keys : List (ℕ × ℕ)) (steps : List (List ℕ)) : Type 0 where
+  pub at_is : at ≡ record { graph = g; ran = concat steps }
+  pub keyed : HasReady g (lane_in lanes) (concat steps) (λ l v. Contains keys (l, v))
+  pub begun : IsBegun g lanes cores steps
+
 -- distinct numbers below n are at most n
 few : (xs : List ℕ) (n : ℕ) → IsDistinct nat_eq xs → ((v : ℕ) → Contains xs v → v < n) → length xs ≤ n
 few xs n once below = length-le_from_distinct_below xs n once (λ q e. below q ((is_member-Decides decides_eq xs q).0 e))
-
-abbrev of_graph : CostGraph → List ℕ → Progress
-of_graph g ran = record { graph = g; ran = ran }
 
 -- a step from these keys, with what was left and what became ready
 pub record IsStep (g : CostGraph) (lanes : List ℕ) (cores : ℕ) (at : Progress) (keys : List (ℕ × ℕ)) (step freed : List ℕ) (keys' : List (ℕ × ℕ)) : Type 0 where
@@ -100,43 +105,77 @@ pub record IsStep (g : CostGraph) (lanes : List ℕ) (cores : ℕ) (at : Progres
   pub comes : (v : ℕ) → Contains freed v ↔ BecomesReady at.graph at.ran (at.ran ++ step) v
   pub are : (k : ℕ × ℕ) → Contains keys' k ↔ (Contains (drop cores keys) k ⊎ (Contains freed k.1 × (k.0 ≡ get_or lanes k.1 0)))
 
-module _ (g : CostGraph) (lanes : List ℕ) (cores : ℕ) (at : Progress) (keys : List (ℕ × ℕ)) (steps : List (List ℕ)) (now : IsGoing g lanes cores at keys steps) (rising : IsStrictlySortedBy pair_cmp keys) where
+module _ (g : CostGraph) (lanes : List ℕ) (cores : ℕ) (keys : List (ℕ × ℕ)) (steps : List (List ℕ)) (begun : IsBegun g lanes cores steps) (keyed : HasReady g (lane_in lanes) (concat steps) (λ l v. Contains keys (l, v))) (rising : IsStrictlySortedBy pair_cmp keys) where
   abbrev step : List ℕ
   step = map (λ k. k.1) (take cores keys)
 
   runs : (v : ℕ) → Contains step v → IsReady g (concat steps) v
   runs v c =
       let k = from_map (take cores keys) v c in
-      subst (IsReady g (concat steps)) k.2 ((now.keyed k.0.0 k.0.1).0 (in_take keys cores k.0 k.1)).0
-
-  -- the step is of ready vertices
-  pub runs_at : (stp : List ℕ) → stp ≡ map (λ k. k.1) (take cores keys) → (v : ℕ) → Contains stp v → IsReady at.graph at.ran v
-  runs_at stp e v c = subst (λ (p : Progress). IsReady p.graph p.ran v) (sym now.at_is) (runs v (subst (λ l. Contains l v) e c))
+      subst (IsReady g (concat steps)) k.2 ((keyed k.0.0 k.0.1).0 (in_take keys cores k.0 k.1)).0
 
   all_done : concat (steps ++ step ∷ []) ≡ concat steps ++ step
   all_done = concat_append steps (step ∷ []) ∙ ap (λ l. concat steps ++ l) (append-nil step)
 
   step_once : IsDistinct nat_eq step
-  step_once = distinct_step lanes keys rising (λ k c. ((now.keyed k.0 k.1).0 c).1) cores
+  step_once = distinct_step lanes keys rising (λ k c. ((keyed k.0 k.1).0 c).1) cores
 
   done_once : IsDistinct nat_eq (concat steps ++ step)
-  done_once = distinct_join (concat steps) step now.once step_once (λ v a b. (runs v b).waits a)
+  done_once = distinct_join (concat steps) step begun.once step_once (λ v a b. (runs v b).waits a)
 
   done_within : (v : ℕ) → Contains (concat steps ++ step) v → v < vertex_total g
-  done_within v c = elim (Contains-append_cases (concat steps) step v c) [ inl early ↦ now.within v early | inr late ↦ (runs v late).vertex ]
+  done_within v c = elim (Contains-append_cases (concat steps) step v c) [ inl early ↦ begun.within v early | inr late ↦ (runs v late).vertex ]
 
   step_some : 1 ≤ cores → 0 < length keys → 0 < length step
   step_some one some = omega (arith, length-map {A = ℕ × ℕ} {B = ℕ} (take cores keys) (λ k. k.1), length-take cores keys, one, some)
+
+  -- the step adds vertices, no more than there are
+  pub adds : 1 ≤ cores → 0 < length keys → (length (concat steps) < length (concat (steps ++ step ∷ []))) × (length (concat (steps ++ step ∷ [])) ≤ vertex_total g)
+  adds one some =
+      let both = length-append (concat steps) step in
+      let more = step_some one some in
+      let whole = ap length all_done in
+      (omega (arith, both, more, whole), omega (arith, whole, few (concat steps ++ step) (vertex_total g) done_once done_within))
+
+  -- with it the steps are planned as before
+  pub begun_next : 1 ≤ cores → 0 < length keys → IsBegun g lanes cores (steps ++ step ∷ [])
+  begun_next one some = record {
+    each = λ i lt. kept i lt (cases_lt i (length steps));
+    once = subst (IsDistinct nat_eq) (sym all_done) done_once;
+    within = λ v c. done_within v (subst (λ l. Contains l v) all_done c);
+  }
+    where
+      planned : IsPlanned g lanes cores (concat steps) step
+      planned = record { keys = keys; ready = record { rising = rising; are = λ k. keyed k.0 k.1 }; first = refl; some = step_some one some }
+
+      kept : (i : ℕ) → i < length (steps ++ step ∷ []) → (i < length steps) ⊎ (length steps ≤ i) → IsPlanned g lanes cores (vertices_before (steps ++ step ∷ []) i) (get_or (steps ++ step ∷ []) i [])
+      kept i lt (inl early) =
+          let short : i ≤ length steps = omega (arith, early) in
+          rw (take-append-le i steps (step ∷ []) short, get_or-append steps (step ∷ []) [] i early) (begun.each i early)
+      kept i lt (inr late) =
+          let e : i ≡ length steps = omega (arith, late, lt, length-append steps (step ∷ [])) in
+          let le : length steps ≤ length steps = omega arith in
+          rw e (rw (take-append-le (length steps) steps (step ∷ []) le, take-length steps, get_or-append_seam steps step [] []) planned)
+
+module _ (g : CostGraph) (lanes : List ℕ) (cores : ℕ) (at : Progress) (keys : List (ℕ × ℕ)) (steps : List (List ℕ)) (now : IsGoing g lanes cores at keys steps) (rising : IsStrictlySortedBy pair_cmp keys) where
+  abbrev next_step : List ℕ
+  next_step = map (λ k. k.1) (take cores keys)
+
+  -- the step is of ready vertices
+  pub runs_at : (stp : List ℕ) → stp ≡ map (λ k. k.1) (take cores keys) → (v : ℕ) → Contains stp v → IsReady at.graph at.ran v
+  runs_at stp e v c = subst (λ (p : Progress). IsReady p.graph p.ran v) (sym now.at_is) (runs g lanes cores keys steps now.begun now.keyed rising v (subst (λ l. Contains l v) e c))
+
+  done_is : concat (steps ++ next_step ∷ []) ≡ concat steps ++ next_step
+  done_is = all_done g lanes cores keys steps now.begun now.keyed rising
 
   -- fewer vertices are left
   pub falls_next : 1 ≤ cores → 0 < length keys → (stp : List ℕ) (next : Progress) → stp ≡ map (λ k. k.1) (take cores keys) → next.ran ≡ at.ran ++ stp → vertex_total g - length next.ran < vertex_total g - length at.ran
   falls_next one some stp next e ran =
       let at_long : length at.ran ≡ length (concat steps) = ap (λ (p : Progress). length p.ran) now.at_is in
-      let next_long : length next.ran ≡ length at.ran + length step = ap length ran ∙ length-append at.ran stp ∙ ap (λ (l : List ℕ). length at.ran + length l) e in
-      let le = few (concat steps ++ step) (vertex_total g) done_once done_within in
-      let both = length-append (concat steps) step in
-      let more = step_some one some in
-      omega (arith, at_long, next_long, le, both, more)
+      let next_long : length next.ran ≡ length at.ran + length next_step = ap length ran ∙ length-append at.ran stp ∙ ap (λ (l : List ℕ). length at.ran + length l) e in
+      let more = adds g lanes cores keys steps now.begun now.keyed rising one some in
+      let whole : length (concat (steps ++ next_step ∷ [])) ≡ length (concat steps) + length next_step = ap length done_is ∙ length-append (concat steps) next_step in
+      omega (arith, at_long, next_long, more.0, more.1, whole)
 
   -- what was left, and what became ready
   pub going_next : 1 ≤ cores → 0 < length keys → (stp freed : List ℕ) (next : Progress) (keys' : List (ℕ × ℕ)) (steps' : List (List ℕ)) → IsStep g lanes cores at keys stp freed keys'
@@ -144,28 +183,26 @@ module _ (g : CostGraph) (lanes : List ℕ) (cores : ℕ) (at : Progress) (keys 
   going_next one some stp freed next keys' steps' is graph ran e =
       subst (IsGoing g lanes cores next keys') (sym (e ∙ ap (λ x. steps ++ x ∷ []) is.first)) (record {
         at_is = next_is;
-        keyed = subst (λ l. HasReady g (lane_in lanes) l (λ l v. Contains keys' (l, v))) (sym all_done) moved;
-        each = λ i lt. kept i lt (cases_lt i (length steps));
-        once = subst (IsDistinct nat_eq) (sym all_done) done_once;
-        within = λ v c. done_within v (subst (λ l. Contains l v) all_done c);
+        keyed = subst (λ l. HasReady g (lane_in lanes) l (λ l v. Contains keys' (l, v))) (sym done_is) moved;
+        begun = begun_next g lanes cores keys steps now.begun now.keyed rising one some;
       })
     where
       graph_is : next.graph ≡ g
       graph_is = graph ∙ ap (λ (p : Progress). p.graph) now.at_is
 
-      ran_is : next.ran ≡ concat (steps ++ step ∷ [])
-      ran_is = ran ∙ ap (λ (p : Progress). p.ran ++ stp) now.at_is ∙ ap (λ (l : List ℕ). concat steps ++ l) is.first ∙ sym all_done
+      ran_is : next.ran ≡ concat (steps ++ next_step ∷ [])
+      ran_is = ran ∙ ap (λ (p : Progress). p.ran ++ stp) now.at_is ∙ ap (λ (l : List ℕ). concat steps ++ l) is.first ∙ sym done_is
 
-      next_is : next ≡ record { graph = g; ran = concat (steps ++ step ∷ []) }
+      next_is : next ≡ record { graph = g; ran = concat (steps ++ next_step ∷ []) }
       next_is = λ i. record { graph = graph_is i; ran = ran_is i }
 
-      comes : (v : ℕ) → Contains freed v ↔ BecomesReady g (concat steps) (concat steps ++ step) v
+      comes : (v : ℕ) → Contains freed v ↔ BecomesReady g (concat steps) (concat steps ++ next_step) v
       comes =
           subst (λ (l : List ℕ). (v : ℕ) → Contains freed v ↔ BecomesReady g (concat steps) (concat steps ++ l) v) is.first
           (subst (λ (p : Progress). (v : ℕ) → Contains freed v ↔ BecomesReady p.graph p.ran (p.ran ++ stp) v) now.at_is is.comes)
 
       -- a key that is left is one whose vertex is not in the step
-      left : (l v : ℕ) → Contains (drop cores keys) (l, v) → Contains step v → ⊥
+      left : (l v : ℕ) → Contains (drop cores keys) (l, v) → Contains next_step v → ⊥
       left l v d r =
           let j = from_map (take cores keys) v r in
           let mine = (now.keyed l v).0 (in_drop keys cores (l, v) d) in
@@ -173,8 +210,8 @@ module _ (g : CostGraph) (lanes : List ℕ) (cores : ℕ) (at : Progress) (keys 
           let same = pair_is j.0 (l, v) (lane ∙ ap (λ x. get_or lanes x 0) j.2 ∙ sym mine.1) j.2 in
           apart keys cores (l, v) rising (subst (Contains (take cores keys)) same j.1) d
 
-      moved : HasReady g (lane_in lanes) (concat steps ++ step) (λ l v. Contains keys' (l, v))
-      moved = ready_next g (lane_in lanes) (concat steps) step freed (λ l v. Contains keys (l, v)) (λ l v. Contains keys' (l, v)) now.keyed comes (λ l v. (
+      moved : HasReady g (lane_in lanes) (concat steps ++ next_step) (λ l v. Contains keys' (l, v))
+      moved = ready_next g (lane_in lanes) (concat steps) next_step freed (λ l v. Contains keys (l, v)) (λ l v. Contains keys' (l, v)) now.keyed comes (λ l v. (
         λ c. elim ((is.are (l, v)).0 c) [ inl d ↦ inl (in_drop keys cores (l, v) d, left l v d) | inr f ↦ inr f ],
         λ h. (is.are (l, v)).1 (elim h [
           | inr f ↦ inr f
@@ -185,21 +222,12 @@ module _ (g : CostGraph) (lanes : List ℕ) (cores : ℕ) (at : Progress) (keys 
         ]),
       ))
 
-      planned : IsPlanned g lanes cores (concat steps) step
-      planned = record { keys = keys; ready = record { rising = rising; are = λ k. now.keyed k.0 k.1 }; first = refl; some = step_some one some }
-
-      kept : (i : ℕ) → i < length (steps ++ step ∷ []) → (i < length steps) ⊎ (length steps ≤ i) → IsPlanned g lanes cores (vertices_before (steps ++ step ∷ []) i) (get_or (steps ++ step ∷ []) i [])
-      kept i lt (inl early) =
-          let short : i ≤ length steps = omega (arith, early) in
-          rw (take-append-le i steps (step ∷ []) short, get_or-append steps (step ∷ []) [] i early) (now.each i early)
-      kept i lt (inr late) =
-          let e : i ≡ length steps = omega (arith, late, lt, length-append steps (step ∷ [])) in
-          let le : length steps ≤ length steps = omega arith in
-          rw e (rw (take-append-le (length steps) steps (step ∷ []) le, take-length steps, get_or-append_seam steps step [] []) planned)
-
 none_twice : IsDistinct nat_eq []
 unfolding IsDistinct
 none_twice = tt
+
+pub begin : (g : CostGraph) (lanes : List ℕ) (cores : ℕ) → IsBegun g lanes cores []
+begin g lanes cores = record { each = λ i lt. absurd (omega (arith, lt)); once = none_twice; within = λ v c. absurd (no_member v c) }
 
 -- at the start the keys are those of what is ready
 pub starting : (g : CostGraph) (lanes : List ℕ) (cores : ℕ) (at : Progress) (found : List ℕ) (keys : List (ℕ × ℕ)) → at ≡ record { graph = g; ran = [] } → ((v : ℕ) → Contains found v ↔ IsReady at.graph at.ran v)
@@ -210,7 +238,5 @@ starting g lanes cores at found keys e are keyed = record {
     λ c. elim ((keyed (l, v)).0 c) [ inl z ↦ absurd (no_member (l, v) z) | inr h ↦ h ],
     λ h. (keyed (l, v)).1 (inr h),
   ));
-  each = λ i lt. absurd (omega (arith, lt));
-  once = none_twice;
-  within = λ v c. absurd (no_member v c);
+  begun = begin g lanes cores;
 }

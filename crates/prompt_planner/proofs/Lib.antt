@@ -6,3 +6,5 @@ pub mod Unique
 pub mod OwnLanes
 pub mod Within
 pub mod OneCanonical
+pub mod SomeLanes
+pub mod SomePlan

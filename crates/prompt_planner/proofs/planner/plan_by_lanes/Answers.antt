@@ -38,7 +38,7 @@ steps-preserved c =
 planned : (g : CostGraph) (lanes : List ℕ) (cores : ℕ) (at : Progress) (keys : List (ℕ × ℕ)) (steps : List (List ℕ)) → IsGoing g lanes cores at keys steps → length keys ≡ 0 → IsPlan g lanes cores steps
 planned g lanes cores at keys steps now none =
     record {
-      each = now.each;
+      each = now.begun.each;
       none_left = λ v r.
           let k = (now.keyed (get_or lanes v 0) v).1 (r, refl) in
           let past : k.0 < 0 = omega (arith, k.1, none) in

@@ -136,7 +136,7 @@ def size(r):
     return [b"check"], head + r.choice([b" ", b"0", b"#", b"x"]) * (n - len(head) - len(tail)) + tail
 
 
-GENERATORS = {"typed": 8, "wrong_choice": 20, "wrong_name": 8, "about_limits": 8, "calls": 16, "edge": 12, "walk": 14,
+GENERATORS = {"typed": 8, "wrong_choice": 20, "wrong_name": 8, "about_limits": 8, "calls": 16, "edge": 18, "walk": 14,
               "change_tokens": 10, "change_near": 20, "change_bytes": 10, "sections": 12, "words": 14, "size": 1.5}
 
 

@@ -44,7 +44,7 @@ def run_of(data):
 def tree(r):
     """A tree of threads at a few priorities, with joins of those that may be waited for: much that is ready at once."""
     names = list("abcd")[:r.randrange(1, 5)]
-    pairs = [tuple(sorted(r.sample(names, 2))) for _ in range(r.randrange(4))] if len(names) > 1 else []
+    pairs = [tuple(sorted(r.sample(names, 2))) for _ in range(r.choice([0, 1, 2, 3, 6]))] if len(names) > 1 else []
     r.shuffle(names)
     left = r.choice([5, 10, 20, 30])
 
@@ -81,30 +81,42 @@ def deep(r):
 
 
 def arithmetic(r):
-    """One expression of numbers at the ends of their range, written and given back."""
+    """Expressions of numbers at the ends of their range, written and given back."""
+    few = r.choice([["7", "2", "( 0 - 7 )", "( 0 - 2 )", "( 0 - 1 )"], ["1", "( 0 - 1 )", "( ( 0 - %s ) - 1 )" % LARGE, LARGE], None, None])
+
     def number(depth):
-        kind = r.random()
-        if depth == 0 or kind < 0.2:
-            return r.choice(["0", "1", "2", "7", "007", LARGE, "( 0 - %s )" % LARGE, "( ( 0 - %s ) - 1 )" % LARGE, "( 0 - 1 )", "( 0 - 7 )", "4611686018427387904", "3037000500"])
+        if depth == 0 or r.random() < 0.2:
+            return r.choice(few or ["0", "1", "2", "7", "007", LARGE, "( 0 - %s )" % LARGE, "( ( 0 - %s ) - 1 )" % LARGE, "( 0 - 1 )", "( 0 - 7 )", "4611686018427387904", "3037000500"])
         return "( %s %s %s )" % (number(depth - 1), r.choice("+-*/%"), number(depth - 1))
 
     def test(depth):
         if depth == 0 or r.random() < 0.3:
-            return "( %s %s %s )" % (number(1), r.choice(["<", "<=", "=="]), number(1))
-        return r.choice(["not ( %s )" % test(depth - 1), "( %s %s %s )" % (test(depth - 1), r.choice(["and", "or"]), test(depth - 1))])
+            return r.choice(["true", "false", "( ( 1 / 0 ) == 1 )", "( %s %s %s )" % (number(1), r.choice(["<", "<=", "=="]), number(1))])
+        return r.choice(["not ( %s )", "( false and %s )", "( true or %s )", "( %%s %s %%s )" % r.choice(["and", "or"])]).replace("%s", test(depth - 1))
     return ("priority p ; proc f ( a : int , b : bool ) at p : int { o <- output a ; if b { ret a } else { ret 0 } } "
             "main at p : ( int * bool ) { h <- spawn [ p ] { x <- call f ( %s , %s ) ; ret x } ; o <- output %s ; x <- sync h ; ret ( x , %s ) }"
             % (number(2), test(1), number(2), test(2))).split()
 
 
+def reader(r):
+    """Threads, calls and blocks that read inputs, write them, and give back what they did not write."""
+    read = "a <- input ; o <- case_of ; b <- input ; ret ( a , b )"
+    shape = "( ( unit + int ) * ( unit + int ) )"
+    actions = ["call f ( )", "do { %s }" % read, "call f ( )"]
+    binds = ["x%d <- %s ;" % (i, r.choice(actions + ["input"])) for i in range(r.randrange(3))]
+    binds.insert(r.randrange(len(binds) + 1), "h <- spawn [ p ] { u <- input ; %s } ;" % read)
+    text = "priority p ; proc show ( s : ( unit + int ) ) at p : unit { case s inl u { ret u } inr n { o <- output n ; ret o } } "
+    text += "proc f ( ) at p : %s { %s } main at p : %s { %s y <- sync h ; ret y }" % (shape, read, shape, " ".join(binds))
+    return text.replace("case_of", r.choice(["call show ( a )", "call show ( a )", "output 3"])).split()
+
+
 def running(r):
-    kind = r.random()
-    tokens = Typed(r, ends=True).program().split() if kind < 0.5 else [tree, tree, deep, arithmetic][r.randrange(4)](r)
-    return spaced(r, tokens)
+    makers = [lambda r: Typed(r, ends=True).program().split(), tree, deep, arithmetic, reader]
+    return spaced(r, r.choices(makers, [35, 20, 5, 25, 15])[0](r))
 
 
 # ---------------------------------------------------------------- inputs
-PATHS = ["0", "0", "0", "0.0", "0.1", "0.2", "0.0.0", "0.1.0", "0.10", "0.4294967295", "0" + ".0" * 31]
+PATHS = ["0", "0", "0", "0.0", "0.0", "0.1", "0.2", "0.0.0", "0.1.0", "0.10", "0.4294967295", "0" + ".0" * 31]
 NUMBERS = ["0", "-0", "5", "-6", "007", "-007", LARGE, "-9223372036854775808", "1", "2", "3", "-1"]
 BLANKS = [" ", " ", "  ", "\t", " \t", "\r"]
 BAD_INPUTS = ["1: 5", "0: 5x", " 0: 5", "0 : 5", "00: 5", "0.: 1", ".0: 1", "0..0: 1", "0: +5", "0: --5", "0: 5-6", "0: -", "0:5,6", "0", "0;5", ":5", "-0: 1",
@@ -119,7 +131,7 @@ def blanks(r, least):
 def input_lines(r):
     lines = []
     for path in sorted(set(r.choice(PATHS) for _ in range(r.randrange(5))), key=lambda _: r.random()):
-        numbers = [r.choice(NUMBERS) for _ in range(r.randrange(5))]
+        numbers = [r.choice(NUMBERS) for _ in range(r.randrange(7))]
         lines.append(path + ":" + blanks(r, 0) + "".join(n + blanks(r, 1) for n in numbers[:-1]) + "".join(numbers[-1:]) + blanks(r, 0))
         lines += r.choice([[], [], [], ["# 0: 5x"], [""], [" \t\r"]])
     return lines
@@ -240,7 +252,7 @@ def changed(r, steps_, graph):
 
 def flawed(r, steps_, graph, cores):
     """A schedule that has at one step the flaw of a kind that is drawn, where that step allows it."""
-    out, kind = [list(step) for step in steps_], r.choice("empty wide twice unready idle inverted inverted unfinished".split())
+    out, kind = [list(step) for step in steps_], r.choice("empty wide twice unready idle inverted inverted unfinished any any any".split())
     for i in sorted(range(len(out)), key=lambda _: r.random()):
         done = set(v for step in out[:i] for v in step)
         later = [v for step in out[i + 1:] for v in step]
@@ -264,6 +276,9 @@ def flawed(r, steps_, graph, cores):
     elif kind == "inverted" and low:
         n, u = r.choice(low)
         step[n] = u
+    elif kind == "any":
+        pool = (step + ready) * r.choice([1, 2, 8]) + later[:6] + sorted(done)[-3:]
+        out[i] = [r.choice(pool) for _ in range(r.randrange(1, min(cores, 6) + 2))]
     else:
         del out[i:]
     return out
@@ -321,15 +336,16 @@ def bad_schedule(r, _):
         for _ in range(r.choice([1, 1, 2, 2, 3])):
             i = r.randrange(len(lines)) if lines else 0
             vertices = lines[i].split(" ") if lines else []
-            vertices.insert(r.randrange(len(vertices) + 1), r.choice(r.choice([BAD_VERTICES, UNKNOWN_VERTICES, UNKNOWN_VERTICES])))
+            for _ in range(r.choice([1, 1, 2])):
+                vertices.insert(r.randrange(len(vertices) + 1), r.choice(r.choice([BAD_VERTICES, UNKNOWN_VERTICES])))
             lines[i:i + 1] = [" ".join(vertices)]
         return lines
     return judged(r, lambda graph, cores: schedules.plan(graph, cores), damaged)
 
 
 # How often each kind of case comes, and the command that it needs.
-GENERATORS = {"run": 36, "faulty": 24, "bad_inputs": 16, "large": 2}
-JUDGED = {"promptly": 8, "with_flaw": 20, "with_change": 16, "bad_schedule": 8}
+GENERATORS = {"run": 36, "faulty": 24, "bad_inputs": 24, "large": 2}
+JUDGED = {"promptly": 8, "with_flaw": 26, "with_change": 10, "bad_schedule": 12}
 
 
 # ---------------------------------------------------------------- what has to be hit

@@ -165,8 +165,8 @@ def run(r, commands):
 
 def faulty(r, commands):
     """Texts that are mostly no program or not typable; what is one runs within a small limit."""
-    data = r.choice([typed, wrong_choice, wrong_choice, wrong_name, about_limits, edge, walk, calls])(r)[1]
-    for _ in range(r.choice([0, 0, 0, 1, 2, 2])):
+    data = r.choice([typed, wrong_choice, wrong_choice, wrong_choice, calls, calls, wrong_name, about_limits, edge, walk])(r)[1]
+    for _ in range(r.choice([0, 0, 0, 0, 1, 2, 2])):
         data = joined(r, data, section(r, r.choice(["inputs", "inputs", "schedule", "input", "="]), [r.choice(["0;0", "0: x", "0: 5"])]))
     return words(r, any_command(r, commands), [1, 10, 300, 1000]), data
 
@@ -344,7 +344,7 @@ def bad_schedule(r, _):
 
 
 # How often each kind of case comes, and the command that it needs.
-GENERATORS = {"run": 36, "faulty": 24, "bad_inputs": 24, "large": 2}
+GENERATORS = {"run": 36, "faulty": 32, "bad_inputs": 24, "large": 2}
 JUDGED = {"promptly": 8, "with_flaw": 26, "with_change": 10, "bad_schedule": 12}
 
 

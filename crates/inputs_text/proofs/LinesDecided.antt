@@ -40,14 +40,14 @@ plain_or_not text =
       | inr n ↦ elim (equal_or_not (slice_index text 0) 48) [ inl z ↦ inr (λ h. n (h z)) | inr m ↦ inl (λ z. absurd (m z)) ]
     ]
 
-part_or_none : (text : List ℕ) → ((n : ℕ) × IsPartText text n) ⊎ ((n : ℕ) → ¬ IsPartText text n)
+pub part_or_none : (text : List ℕ) → ((n : ℕ) × IsPartText text n) ⊎ ((n : ℕ) → ¬ IsPartText text n)
 part_or_none text =
     elim (both_or_not (digits_or_not text) (both_or_not (plain_or_not text) (le_or_not (suc (value_of text)) (2 ^ 32)))) [
       | inl h ↦ inl (value_of text, record { digits = h.0; plain = h.1.0; value = refl; small = h.1.1 })
       | inr no' ↦ inr (λ n p. no' (p.digits, (p.plain, subst (λ v. v < 2 ^ 32) p.value p.small)))
     ]
 
-path_or_none : (text : List ℕ) → ((p : List ℕ) × IsPathText text p) ⊎ ((p : List ℕ) → ¬ IsPathText text p)
+pub path_or_none : (text : List ℕ) → ((p : List ℕ) × IsPathText text p) ⊎ ((p : List ℕ) → ¬ IsPathText text p)
 path_or_none text =
     elim (pairs_or_none IsPartText part_or_none (between_dots text)) [
       | inr none ↦ inr (λ p h. none p h.parts)
@@ -101,7 +101,7 @@ numbers_or_none : (text : List ℕ) → ((ns : List ℤ) × AreNumbers text ns) 
 numbers_or_none text = pairs_or_none IsNumberText number_or_none (words_of text)
 
 -- the first colon of a line, or that it has none
-cut_or_none : (line : List ℕ) → ((path : List ℕ) × (numbers : List ℕ) × IsCut line path numbers) ⊎ All (λ b. b ≢ 58) line
+pub cut_or_none : (line : List ℕ) → ((path : List ℕ) × (numbers : List ℕ) × IsCut line path numbers) ⊎ All (λ b. b ≢ 58) line
 cut_or_none [] = inr (All-nil (λ b. b ≢ 58))
 cut_or_none (b ∷ bs) = go (equal_or_not b 58) (cut_or_none bs) where
   go : (b ≡ 58) ⊎ (b ≢ 58) → ((path : List ℕ) × (numbers : List ℕ) × IsCut bs path numbers) ⊎ All (λ x. x ≢ 58) bs → ((path : List ℕ) × (numbers : List ℕ) × IsCut (b ∷ bs) path numbers) ⊎ All (λ x. x ≢ 58) (b ∷ bs)

@@ -2,7 +2,7 @@
 use Rattle.std.proofs.Common.{◌≡◌, ◌≢◌, ℕ, suc, ◌+◌, ◌<◌, ℤ, List, [], ◌∷◌, ◌++◌, length, take, drop, get_or, map, Option, None, Some, Result, Ok, Err, IfErr, refl, sym, ap, subst, ◌∙◌, inl, inr, ◌⊎◌, arith, append-nil, take-append-drop, drop-cons, length-take, length-append}
 use Rattle.std.specs.Result.{IsErrAnd}
 use Rattle.std.proofs.lemmas.List.{map-append}
-pub use Rattle.priml_io.proofs.Places.{Places, same_place, comes_before, comes_after, places}
+use Rattle.priml_io.proofs.Places.{Places, same_place, comes_before, comes_after, places}
 use Rattle.priml_syntax.specs.Inputs.{IsNoneOf, NoPathTwice}
 use Rattle.inputs_text.specs.declared.inputs.InputFault.{InputFault}
 use Rattle.inputs_text.specs.declared.inputs.InputFault.TheVariants as fault

@@ -29,7 +29,7 @@ module _ (g : CostGraph) (pairs : List (ℕ × ℕ)) (cores : ℕ) (steps : List
   Flawed = HasFlaw g (IsVertexBelow g pairs) cores steps
 
   -- no flaw of a kind below n
-  none_to : (i n : ℕ) → (1 < n → Flawed i EmptyStep → ⊥) → (2 < n → Flawed i TooWide → ⊥) → (3 < n → (v : ℕ) → Flawed i (Twice v) → ⊥) → (4 < n → (v : ℕ) → Flawed i (NotReady v) → ⊥)
+  pub none_to : (i n : ℕ) → (1 < n → Flawed i EmptyStep → ⊥) → (2 < n → Flawed i TooWide → ⊥) → (3 < n → (v : ℕ) → Flawed i (Twice v) → ⊥) → (4 < n → (v : ℕ) → Flawed i (NotReady v) → ⊥)
       → (5 < n → (u : ℕ) → Flawed i (IdleCore u) → ⊥) → (6 < n → (v u : ℕ) → Flawed i (Inverted v u) → ⊥) → (7 < n → (u : ℕ) → Flawed i (Unfinished u) → ⊥)
       → (other : FlawKind) → rank other < n → Flawed i other → ⊥
   none_to i n a b c d e f h EmptyStep lt = a lt
@@ -68,16 +68,16 @@ module _ (g : CostGraph) (pairs : List (ℕ × ℕ)) (cores : ℕ) (steps : List
     le : i ≤ length steps
     le = omega (arith, lt)
 
-    empty_not : 0 < length line → Flawed i EmptyStep → ⊥
+    pub empty_not : 0 < length line → Flawed i EmptyStep → ⊥
     empty_not s h = omega (arith, s, h.1)
 
-    wide_not : length line ≤ cores → Flawed i TooWide → ⊥
+    pub wide_not : length line ≤ cores → Flawed i TooWide → ⊥
     wide_not s h = omega (arith, s, h.1)
 
-    twice_not : IsFound line (StandsAgain done_list line) None → (v : ℕ) → Flawed i (Twice v) → ⊥
+    pub twice_not : IsFound line (StandsAgain done_list line) None → (v : ℕ) → Flawed i (Twice v) → ⊥
     twice_not none v h = none h.1.0 h.1.1 (subst (StandsAgain done_list line h.1.0) (sym h.1.2) h.1.3)
 
-    early_not : IsFound line (IsEarly g done_list) None → (v : ℕ) → Flawed i (NotReady v) → ⊥
+    pub early_not : IsFound line (IsEarly g done_list) None → (v : ℕ) → Flawed i (NotReady v) → ⊥
     early_not none v h = none h.1.0 h.1.1 (subst (IsEarly g done_list h.1.0) (sym h.1.2) h.1.3)
 
     pub broken_flaw : (kind : FlawKind) → IsBroken g cores done_list line (Some kind) → IsFlaw g (IsVertexBelow g pairs) cores steps i kind

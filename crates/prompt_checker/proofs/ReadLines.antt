@@ -12,7 +12,7 @@ use Rattle.inputs_text.specs.InputLines.{IsCut, words_of}
 use Rattle.inputs_text.proofs.Pairs.{pairs-more, pairs-one, pairs-at, pairs-length, pairs-parted}
 use Rattle.inputs_text.proofs.PathForms.{part-one, path-one}
 use Rattle.inputs_text.proofs.LineForms.{cut-one, no-colon}
-use Rattle.inputs_text.proofs.Reading.{Places, same_place, comes_before, comes_after, places}
+use Rattle.priml_io.proofs.Places.{Places, same_place, comes_before, comes_after, places}
 use Rattle.std.proofs.lemmas.List.Elements.{All-cons, All-nil}
 use Rattle.cost_graph.specs.Graph.{CostGraph, IsGraph, IsVertexAt, first_vertex, vertex_total}
 use Rattle.cost_graph.proofs.Members.{no_member_short, member_head}

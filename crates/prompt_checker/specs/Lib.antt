@@ -6,3 +6,4 @@ pub mod Watch
 pub mod ScheduleText
 pub mod Looks
 pub mod Text
+pub mod Laws

@@ -6,8 +6,6 @@ mod laws;
 mod place;
 mod report;
 mod row;
-#[cfg(test)]
-mod tests;
 mod text;
 
 pub use bound::response_is_bounded;

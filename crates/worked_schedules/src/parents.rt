@@ -3,14 +3,12 @@ ghost use Rattle.std.specs.Prelude.{◌≡◌, ◌+◌, ◌<◌, ◌^◌, ◌∷
 ghost use Rattle.std.specs.List.{range_with_len};
 ghost use Rattle.prompt_checker.specs.Read.{lists};
 
-use crate::row::Row;
-use crate::tests::build::{Scene, order_of, scene_over};
-use crate::tests::schedules::{
-    expect_plan, expect_report, flaw, plan_of, rows_of, sizes, verdict_of,
-};
+use crate::build::{Scene, order_of, scene_over};
+use crate::schedules::{expect_plan, expect_report, flaw, plan_of, rows_of, sizes, verdict_of};
 use cost_graph::{Graph, Thread, are_finished, topological};
 use priml_syntax::{Path, Records};
 use prompt_checker::{FlawKind, ScheduleFault, Verdict, read_schedule};
+use response_report::Row;
 use std::alloc::{AllocError, Global};
 use std::process::Abort;
 use std::test::Fail;
@@ -176,15 +174,31 @@ fn nothing(alloc: Global) -> Result<Scene, Fail> {
     scene_over(alloc, graph, order_of(alloc, &[], &[])?)
 }
 
+// The graph without threads has no vertex, and no thread is found in it.
+#[test]
+fn no_vertex(rt: HostRuntime) -> Result<(), Fail> {
+    let scene = nothing(rt.alloc())?;
+    let root = Path::root(rt.alloc())?;
+    let graph = &scene.graph;
+    let found = (
+        graph.thread_count(),
+        graph.vertex_count(),
+        graph.find(&root, 0),
+    );
+    assert!(rt; found.0 == 0 && found.1 == 0 && found.2.is_none());
+    Ok(())
+}
+
 #[test]
 fn no_thread(rt: HostRuntime) -> Result<(), Fail> {
     let scene = nothing(rt.alloc())?;
-    let graph = &scene.graph;
-    assert_eq!(rt; (graph.thread_count(), graph.vertex_count()), (0, 0));
-    assert_eq!(rt; graph.find(&Path::root(rt.alloc())?, 0), None);
-    expect_graph(&rt, rt.alloc(), &scene, "", &[])?;
-    expect_plan(&rt, rt.alloc(), &scene, 4, "")?;
-    expect_report(&rt, rt.alloc(), &scene, 4, "cores 4\nsteps 0\n")
+    expect_texts(&rt, rt.alloc(), &scene)
+}
+
+fn expect_texts(rt: &impl Abort, alloc: Global, scene: &Scene) -> Result<(), Fail> {
+    expect_graph(rt, alloc, scene, "", &[])?;
+    expect_plan(rt, alloc, scene, 4, "")?;
+    expect_report(rt, alloc, scene, 4, "cores 4\nsteps 0\n")
 }
 
 // No records are those of a finished job, whose root would be there.

@@ -6,15 +6,13 @@ ghost use Rattle.prompt_checker.specs.Read.{steps_of};
 ghost use Rattle.prompt_checker.specs.Schedule.{IsPrompt};
 ghost use Rattle.response_report.specs.declared.row.Row.{Row as TheLine};
 
-use crate::report::rows;
-use crate::row::Row as Line;
-use crate::tests::build::{Row, Scene, Step, graph_of, make_scene, records_of};
-use crate::text::response_text;
+use crate::build::{Row, Scene, Step, graph_of, make_scene, records_of};
 use cost_graph::{Shape, has_cycle, topological, well_formed};
 use prompt_checker::{
     Flaw, FlawKind, Schedule, ScheduleFault, Verdict, judge, plan_text, read_schedule,
 };
 use prompt_planner::plan;
+use response_report::{Row as Line, response_text, rows};
 use std::alloc::{AllocError, Global};
 use std::process::Abort;
 use std::test::Fail;
@@ -308,44 +306,71 @@ pub(crate) fn expect_report(
     Ok(())
 }
 
+#[derive(Clone, Copy)]
+enum Kind {
+    UrgentRoot,
+    UrgentChild,
+    Unrelated,
+    Three,
+}
+
+fn scene_by(alloc: Global, kind: Kind) -> Result<Scene, Fail> {
+    match kind {
+        Kind::UrgentRoot => urgent_root(alloc),
+        Kind::UrgentChild => urgent_child(alloc),
+        Kind::Unrelated => unrelated(alloc),
+        Kind::Three => three(alloc),
+    }
+}
+
+// The report of the plan of a scene on 1 to 1,024 cores.
+fn expect_by(
+    rt: &impl Abort,
+    alloc: Global,
+    kind: Kind,
+    cores: u32,
+    want: &str,
+) -> Result<(), Fail> {
+    if cores < 1 || cores > 1024 {
+        return Err(Fail::new("no such number of cores"));
+    }
+    let scene = scene_by(alloc, kind)?;
+    expect_report(rt, alloc, &scene, cores, want)
+}
+
 #[test]
 fn reports_of_plans(rt: HostRuntime) -> Result<(), Fail> {
-    let alloc = rt.alloc();
-    expect_report(
-        &rt,
-        alloc,
-        &urgent_root(alloc)?,
-        1,
-        "cores 1\nsteps 5\nresponse 0 ui time 3 work 3 span 3 bound 3\nresponse 0.0 bg time 3 work 3 span 2 bound 3\n",
-    )?;
-    expect_report(
-        &rt,
-        alloc,
-        &urgent_root(alloc)?,
-        2,
-        "cores 2\nsteps 4\nresponse 0 ui time 3 work 3 span 3 bound 3\nresponse 0.0 bg time 2 work 3 span 2 bound 2\n",
-    )?;
-    expect_report(
-        &rt,
-        alloc,
-        &urgent_child(alloc)?,
-        2,
-        "cores 2\nsteps 6\nresponse 0 bg time 6 work 6 span 6 bound 6\nresponse 0.0 ui time 2 work 2 span 2 bound 2\n",
-    )?;
-    expect_report(
-        &rt,
-        alloc,
-        &unrelated(alloc)?,
-        1,
-        "cores 1\nsteps 5\nresponse 0 a time 3 work 5 span 3 bound 5\nresponse 0.0 b time 3 work 3 span 2 bound 3\n",
-    )?;
-    expect_report(
-        &rt,
-        alloc,
-        &three(alloc)?,
-        1,
-        "cores 1\nsteps 10\nresponse 0 p time 10 work 10 span 8 bound 10\nresponse 0.0 p time 3 work 4 span 2 bound 4\nresponse 0.1 p time 5 work 5 span 4 bound 5\n",
-    )
+    let cases = [
+        (
+            Kind::UrgentRoot,
+            1,
+            "cores 1\nsteps 5\nresponse 0 ui time 3 work 3 span 3 bound 3\nresponse 0.0 bg time 3 work 3 span 2 bound 3\n",
+        ),
+        (
+            Kind::UrgentRoot,
+            2,
+            "cores 2\nsteps 4\nresponse 0 ui time 3 work 3 span 3 bound 3\nresponse 0.0 bg time 2 work 3 span 2 bound 2\n",
+        ),
+        (
+            Kind::UrgentChild,
+            2,
+            "cores 2\nsteps 6\nresponse 0 bg time 6 work 6 span 6 bound 6\nresponse 0.0 ui time 2 work 2 span 2 bound 2\n",
+        ),
+        (
+            Kind::Unrelated,
+            1,
+            "cores 1\nsteps 5\nresponse 0 a time 3 work 5 span 3 bound 5\nresponse 0.0 b time 3 work 3 span 2 bound 3\n",
+        ),
+        (
+            Kind::Three,
+            1,
+            "cores 1\nsteps 10\nresponse 0 p time 10 work 10 span 8 bound 10\nresponse 0.0 p time 3 work 4 span 2 bound 4\nresponse 0.1 p time 5 work 5 span 4 bound 5\n",
+        ),
+    ];
+    for (kind, cores, want) in cases {
+        expect_by(&rt, rt.alloc(), kind, cores, want)?;
+    }
+    Ok(())
 }
 
 #[test]

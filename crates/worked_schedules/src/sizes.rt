@@ -2,13 +2,12 @@
 ghost use Rattle.std.specs.Prelude.{IsTrue};
 ghost use Rattle.cost_graph.specs.Graph.{IsWellFormed};
 
-use crate::report::rows;
-use crate::row::{ReportStop, Row};
-use crate::tests::build::{Scene, ended, path_of, scene_of};
-use crate::tests::schedules::{plan_of, sizes};
+use crate::build::{Scene, ended, path_of, scene_of};
+use crate::schedules::{plan_of, sizes};
 use priml_syntax::{Event, Record};
 use prompt_checker::{Verdict, judge};
 use prompt_planner::plan;
+use response_report::{ReportStop, Row, rows};
 use std::alloc::{AllocError, Global};
 use std::test::Fail;
 

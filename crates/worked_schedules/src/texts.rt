@@ -1,5 +1,5 @@
 //! The texts of graphs.
-use crate::tests::build::{Row, Step, make_scene};
+use crate::build::{Row, Step, make_scene};
 use std::test::Fail;
 
 #[test]

@@ -1,6 +1,6 @@
 use Rattle.std.proofs.Common.{◌≤◌, length, arith}
-use Rattle.response_report.proofs.Worked.{rise_in_order}
-use Rattle.response_report.proofs.tests.build.are_in_order.Goals as goal
+use Rattle.worked_schedules.proofs.Worked.{rise_in_order}
+use Rattle.worked_schedules.proofs.build.are_in_order.Goals as goal
 
 pub returns : goal.returns
 returns c = λ _.

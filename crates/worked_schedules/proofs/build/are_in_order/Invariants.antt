@@ -1,6 +1,6 @@
 use Rattle.std.proofs.Common.{◌≤◌}
-use Rattle.response_report.proofs.Worked.{RiseTo}
-use Rattle.response_report.proofs.tests.build.are_in_order.Given as goal
+use Rattle.worked_schedules.proofs.Worked.{RiseTo}
+use Rattle.worked_schedules.proofs.build.are_in_order.Given as goal
 
 abbrev pub invariant-loop-next : goal.invariant-loop-next
 invariant-loop-next l = record { some : 1 ≤ l.next; rise : RiseTo l.list l.next }

@@ -1,6 +1,6 @@
 use Rattle.std.proofs.Common.{◌≡◌, ℕ, ◌<◌, true, length, arith, rules}
-use Rattle.response_report.proofs.Worked.{each_on}
-use Rattle.response_report.proofs.tests.build.are_within.Goals as goal
+use Rattle.worked_schedules.proofs.Worked.{each_on}
+use Rattle.worked_schedules.proofs.build.are_within.Goals as goal
 
 pub loop-pair-preserved : goal.loop-pair-preserved
 loop-pair-preserved c =

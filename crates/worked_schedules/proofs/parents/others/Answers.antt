@@ -2,7 +2,7 @@ use Rattle.std.proofs.Common.{◌≡◌, ◌+◌, ◌++◌, ◌∷◌, [], add-o
 use Rattle.std.specs.List.{range_with_len}
 use Rattle.std.proofs.lemmas.Grind.{common_steps}
 use Rattle.cost_graph.proofs.Ranges.{range_push}
-use Rattle.response_report.proofs.tests.parents.others.Goals as goal
+use Rattle.worked_schedules.proofs.parents.others.Goals as goal
 
 pub loop-k-preserved : goal.loop-k-preserved
 loop-k-preserved c =

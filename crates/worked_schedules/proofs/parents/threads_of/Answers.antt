@@ -1,8 +1,8 @@
 use Rattle.std.proofs.Common.{◌≡◌, ◌++◌, ◌∷◌, [], sym, ap, ◌∙◌, arith}
 use Rattle.std.proofs.lemmas.Grind.{common_steps}
 use Rattle.std.proofs.lemmas.List.FromFn.{map-range_with_len_more}
-use Rattle.response_report.proofs.Gathered.{root, child}
-use Rattle.response_report.proofs.tests.parents.threads_of.Goals as goal
+use Rattle.worked_schedules.proofs.Gathered.{root, child}
+use Rattle.worked_schedules.proofs.parents.threads_of.Goals as goal
 
 pub loop-k-preserved : goal.loop-k-preserved
 loop-k-preserved c =

@@ -1,6 +1,6 @@
 use Rattle.prompt_checker.specs.Read.{steps_of}
-use Rattle.response_report.proofs.Worked.{rows_numbered}
-use Rattle.response_report.proofs.tests.schedules.numbered_rows.Goals as goal
+use Rattle.worked_schedules.proofs.Worked.{rows_numbered}
+use Rattle.worked_schedules.proofs.schedules.numbered_rows.Goals as goal
 
 pub returns : goal.returns
 returns c =

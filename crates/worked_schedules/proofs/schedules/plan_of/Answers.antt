@@ -4,8 +4,8 @@ use Rattle.std.proofs.lemmas.Result.{IfOk-weaker}
 use Rattle.cost_graph.specs.Graph.{vertex_total, IsVertexBelow}
 use Rattle.prompt_checker.specs.Read.{steps_of}
 use Rattle.prompt_checker.specs.Schedule.{IsPrompt}
-use Rattle.response_report.proofs.Worked.{all_within}
-use Rattle.response_report.proofs.tests.schedules.plan_of.Goals as goal
+use Rattle.worked_schedules.proofs.Worked.{all_within}
+use Rattle.worked_schedules.proofs.schedules.plan_of.Goals as goal
 
 pub returns : goal.returns
 returns c =

@@ -1,8 +1,8 @@
 use Rattle.std.proofs.Common.{◌≡◌, ◌<◌, length, subst, arith}
 use Rattle.std.specs.List.{All}
 use Rattle.cost_graph.specs.declared.graph.Thread.{Thread}
-use Rattle.response_report.proofs.Worked.{one_well_formed}
-use Rattle.response_report.proofs.tests.sizes.has_one_priority.Goals as goal
+use Rattle.worked_schedules.proofs.Worked.{one_well_formed}
+use Rattle.worked_schedules.proofs.sizes.has_one_priority.Goals as goal
 
 pub returns : goal.returns
 returns c = λ e.

@@ -1,0 +1,13 @@
+//! Worked cases, from records to the rows of a report: tests alone.
+#![tactic(auto)]
+
+#[cfg(test)]
+mod build;
+#[cfg(test)]
+mod parents;
+#[cfg(test)]
+mod schedules;
+#[cfg(test)]
+mod sizes;
+#[cfg(test)]
+mod texts;

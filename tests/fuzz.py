@@ -22,6 +22,8 @@ import tempfile
 sys.dont_write_bytecode = True
 import fuzz_runs
 import model
+import model_text
+import model_types
 from fuzz_programs import KINDS, about_limits, any_token, calls, edge, spaced, tokens_of, typed, walk, wrong_choice, wrong_name
 
 HERE = os.path.dirname(os.path.abspath(__file__))
@@ -83,7 +85,7 @@ def change_near(r):
     data = r.choice([wrong_choice, wrong_name, about_limits, edge, edge, walk, walk, calls])(r)[1]
     for _ in range(r.choice([1, 1, 2])):
         status, line = model.answer([b"check"], data)
-        tokens = model.tokens_of(data)[0]
+        tokens = model_text.tokens_of(data)[0]
         if tokens and status in (3, 4):
             i = sum(token.place < int(line.split()[-1]) for token in tokens) + r.choice([-2, -1, 0, 0, 0, 1, 2])
             data = spaced(r, changed(r, tokens_of(data), min(max(i, 0), len(tokens) - 1)))
@@ -169,7 +171,7 @@ def expected(commands):
     """For each command the answers that have to be hit: the begin of a status and a line."""
     texts = ["2 words: " + kind for kind in "no command, unknown command, wrong count, bad number, out of range".split(", ")]
     check = ["0", "5 section: unknown", "5 section: twice", "7 limit: input"]
-    check += ["3 source: " + kind for kind in model.TOKEN_FAULTS + model.NAME_FAULTS] + ["4 type: " + kind for kind in model.TYPE_FAULTS]
+    check += ["3 source: " + kind for kind in model_text.TOKEN_FAULTS + model_text.NAME_FAULTS] + ["4 type: " + kind for kind in model_types.TYPE_FAULTS]
     found = {b"any": texts, **{command: fuzz_runs.answers(command) for command in sorted(commands)}}
     return {**found, **({b"check": check} if b"check" in commands else {})}
 

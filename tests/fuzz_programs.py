@@ -2,10 +2,11 @@
 through the grammar."""
 import re
 
-import model
-from model import BOOL, INT, UNIT, is_at_most, stacks_after, under
+import model_text
+from model_text import stacks_after
+from model_types import BOOL, INT, UNIT, is_at_most, under
 
-KINDS = model.RESERVED + model.SIGNS + ["name", "number"]
+KINDS = model_text.RESERVED + model_text.SIGNS + ["name", "number"]
 LARGE = "9223372036854775807"
 
 
@@ -31,7 +32,7 @@ def any_token(r):
 
 
 def tokens_of(data):
-    return [token.text for token in model.tokens_of(data)[0]]
+    return [token.text for token in model_text.tokens_of(data)[0]]
 
 
 def listed(items):
@@ -293,8 +294,8 @@ def calls(r):
 # ---------------------------------------------------------------- limits at their edges
 def edge(r):
     """One limit: one below it, at it, or one or two above."""
-    what = r.choice(sorted(model.MANY) + ["wide", "wide", "brackets"])
-    n = model.MANY.get(what, 64 if what == "brackets" else 16) + r.choice([-1, 0, 1, 1, 2])
+    what = r.choice(sorted(model_text.MANY) + ["wide", "wide", "brackets"])
+    n = model_text.MANY.get(what, 64 if what == "brackets" else 16) + r.choice([-1, 0, 1, 1, 2])
     some, own, main = n + r.choice([0, 0, 1, -1]), r.randrange(9), " main at a : int { ret 1 }"
     maker = Typed(r)
     maker.all = [("priority", "a")]
@@ -331,7 +332,7 @@ CLOSING = ") ] } ; ret number int ( name at main : , < <= <- { else [ inl inr * 
 def walk(r):
     """Tokens that may follow each other, in half of the cases mostly brackets that open, about 64 of them; then some that
     perhaps may not, or an end that may, or none."""
-    stacks, found, depth, deep = model.START, [], 0, r.choice([0, r.randrange(61, 66)])
+    stacks, found, depth, deep = model_text.START, [], 0, r.choice([0, r.randrange(61, 66)])
 
     def take(kind, text):
         nonlocal stacks, depth
@@ -351,7 +352,7 @@ def walk(r):
         for _ in range(r.choice([1, 1, 2])):
             found.insert(len(found) - r.choice([0, 0, 0, 1, 2]), any_token(r))
     elif r.random() < 0.8:
-        while stacks and None not in model.opened(stacks):
+        while stacks and None not in model_text.opened(stacks):
             kind = next(kind for kind in CLOSING if stacks_after(stacks, kind))
             take(kind, {"name": "a", "number": "1"}.get(kind, kind))
         found += [any_token(r)] * (r.random() < 0.2)

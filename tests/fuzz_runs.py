@@ -8,6 +8,8 @@ import model_schedules as schedules
 import model_steps as steps
 from fuzz_programs import LARGE, Typed, above, calls, edge, spaced, walk
 from fuzz_programs import about_limits, typed, wrong_choice, wrong_name
+from model_text import Refused
+from model_types import is_at_most, typed_program
 
 
 # ---------------------------------------------------------------- words
@@ -26,7 +28,7 @@ class Run:
 
     def __init__(self, data):
         sections = model.sections_of(data)
-        self.order, procedures, main = model.typed_program(sections[b"program"])
+        self.order, procedures, main = typed_program(sections[b"program"])
         job = steps.Job(procedures, main, model.read_inputs(model.lines_of(sections[b"inputs"])))
         self.records = job.records_within(2000)
         self.work = sum(len(record.events) for record in self.records)
@@ -36,7 +38,7 @@ class Run:
 def run_of(data):
     try:
         return Run(data)
-    except (model.Refused, steps.PastLimit):
+    except (Refused, steps.PastLimit):
         return None
 
 
@@ -53,7 +55,7 @@ def tree(r):
         binds, scope = "", list(scope)
         for _ in range(r.randrange(1, 6)):
             kind, name = r.random(), "n%d" % len(scope)
-            threads = [(x, p) for x, p in scope if p and model.is_at_most(pairs, own, p)]
+            threads = [(x, p) for x, p in scope if p and is_at_most(pairs, own, p)]
             if kind < 0.45 and depth > 0 and left > 0 and len(scope) < 20:
                 left -= 1
                 p = above(r, pairs, own) if r.random() < 0.5 else r.choice(names)

@@ -1,40 +1,10 @@
 """What docs/SCHEDULES.md says, in Python: cost graphs, schedules, flaws, plans, responses; and their texts of
 docs/FORMATS.md. The headings below are theirs. A vertex is (path, number), so Python's order of tuples is that of
-vertices by path and number; a priority is its number in the order of declaration."""
+vertices by path and number; a priority is its number in an Order of model_types.py."""
 import heapq
 import re
 
 from model_steps import path_text
-
-
-# ---------------------------------------------------------------- Priorities
-class Order:
-    """Declared priorities by number. `above[p]` are the priorities that p is at most."""
-
-    def __init__(self, names, pairs):
-        self.names, self.above = names, []
-        number = {name: i for i, name in enumerate(names)}
-        for p in range(len(names)):
-            reached, found = {p}, [p]
-            for one in found:                       # `found` grows meanwhile
-                for _, (_, low), (_, high) in pairs:
-                    if number[low] == one and number[high] not in reached:
-                        reached.add(number[high])
-                        found.append(number[high])
-            self.above.append(reached)
-        self.number = number
-
-    def below(self, p, q):
-        """p is strictly below q."""
-        return p != q and q in self.above[p]
-
-    def lanes(self):
-        lanes, remain = {}, list(range(len(self.names)))
-        while remain:
-            first = next(p for p in remain if not any(self.below(p, q) for q in remain))
-            lanes[first] = len(lanes)
-            remain.remove(first)
-        return lanes
 
 
 # ---------------------------------------------------------------- Cost graphs
@@ -86,9 +56,18 @@ def graph_text(graph):
 
 
 # ---------------------------------------------------------------- Schedules
+def lanes_of(order):
+    lanes, remain = {}, list(range(len(order.names)))
+    while remain:
+        first = next(p for p in remain if not any(order.below(p, q) for q in remain))
+        lanes[first] = len(lanes)
+        remain.remove(first)
+    return lanes
+
+
 def plan(graph, cores):
     """The canonical plan, as the list of its steps."""
-    lanes, waits = graph.order.lanes(), {v: len(parents) for v, parents in graph.parents.items()}
+    lanes, waits = lanes_of(graph.order), {v: len(parents) for v, parents in graph.parents.items()}
 
     def ranked(v):
         return lanes[graph.priority[v]], v

@@ -7,10 +7,11 @@ use Rattle.priml_syntax.specs.Records.{work}
 use Rattle.priml_syntax.specs.declared.event.Event.{Event}
 use Rattle.priml_syntax.specs.declared.event.Event.TheVariants.{Start, Plain, Spawn, Join, Wrote, End}
 use Rattle.std.specs.Fmt.{decimal}
+use Rattle.std.proofs.Math.ListN.{replicate}
 use Rattle.std.specs.Option.{option_and_then}
 use Rattle.core_steps.specs.Meaning.{placed, entered, closing, eval, roots_done}
 use Rattle.source_maker.specs.Tree.{chain_code, call_chain, main_code, procedure, made_job}
-use Rattle.source_maker.specs.Runs.{written, outputs}
+use Rattle.source_maker.specs.Runs.{written, outputs, lengths}
 use Rattle.source_maker.proofs.Evaluations.{gives, writes, spawns, calls}
 use Rattle.source_maker.proofs.Leaf.{leaves}
 use Rattle.source_maker.proofs.Chain.{total, call_events, fuel_for, chain_at, chain_gives}
@@ -91,6 +92,15 @@ leaf_writes i (suc k) = omega (arith, leaf_writes (i + 1) k)
 pub steps : (n : ℕ) → work (records n) ≡ 10 * n + 9
 steps n =
     omega (arith, length-append (call_events 0 n ++ Plain ∷ []) (End ∷ []), length-append (call_events 0 n) (Plain ∷ []), call_steps 0 n, leaf_steps 0 n)
+
+leaf_lengths : (i k : ℕ) → lengths (leaves i k) ≡ replicate k 5
+leaf_lengths i zero = refl
+leaf_lengths i (suc k) = ap (λ xs. 5 ∷ xs) (leaf_lengths (i + 1) k)
+
+pub each : (n : ℕ) → lengths (records n) ≡ 4 ∷ (5 * n + 5) ∷ replicate n 5
+each n =
+    let chain : length ((chain_events n ++ Plain ∷ []) ++ End ∷ []) ≡ 5 * n + 5 = omega (arith, length-append (call_events 0 n ++ Plain ∷ []) (End ∷ []), length-append (call_events 0 n) (Plain ∷ []), call_steps 0 n) in
+    λ i. 4 ∷ chain i ∷ leaf_lengths 0 n i
 
 pub threads : (n : ℕ) → length (records n) ≡ n + 2
 threads n = omega (arith, leaf_count 0 n)

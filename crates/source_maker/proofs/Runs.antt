@@ -7,7 +7,7 @@ use Rattle.core_steps.specs.Meaning.{Meaning, Over, Finished, within, meaning}
 use Rattle.core_steps.proofs.Agree.{agrees, same_finished, finished_is_complete}
 use Rattle.source_maker.specs.Tree.{made_job}
 use Rattle.source_maker.specs.Runs.{Runs}
-use Rattle.source_maker.proofs.Records.{root_entry, chain_entry, records, all_done, steps, threads, writes_of}
+use Rattle.source_maker.proofs.Records.{root_entry, chain_entry, records, all_done, steps, threads, each, writes_of}
 use Rattle.source_maker.proofs.Leaf.{leaves}
 use Rattle.std.proofs.Common.{◌∷◌}
 
@@ -38,6 +38,7 @@ module _ (n : ℕ) (small : n ≤ 5000) where
     over = before_work;
     steps = steps n;
     threads = threads n;
+    each = each n;
     writes = writes_of n;
     root = root_entry n;
     others = chain_entry n ∷ leaves 0 n;

@@ -6,8 +6,9 @@ ghost use Rattle.source_maker.specs.Source.{IsSource};
 use std::alloc::{AllocError, Global};
 use std::fmt::Write;
 
-/// The source of a program of n + 2 threads: the root, a thread that goes down a chain of n calls, and a leaf that each
-/// of these calls spawns.
+/// The source of a typable program of n + 2 threads, for n from 1 to 5,000: the root, a thread that goes down a chain of
+/// n calls, and a leaf that each of these calls spawns and joins. It makes 10n + 9 steps. The only error is want of
+/// memory.
 pub fn make(alloc: Global, n: u32) -> Result<Vec<u8>, AllocError>
     requires some { 1 ≤ n }
     requires few { n ≤ 5000 }

@@ -19,8 +19,8 @@ ghost use Rattle.core_steps.specs.Laws.{HasGraph, IsChecked};
 ghost use Rattle.core_steps.specs.Moves.{job_of};
 ghost use Rattle.core_steps.specs.Steps.{Job as TheJob};
 
+use crate::laws::job_is_checked;
 use crate::local::{Local, Moved, Next};
-use crate::step::check;
 use priml_syntax::{Event, Outcome, Path, Record, Records};
 use std::alloc::{AllocError, Global};
 use std::cmp::Ordering;
@@ -50,11 +50,11 @@ impl From<AllocError> for CoreStop {
     }
 }
 
-/// A thread so far.
+// A thread so far.
 #[derive(Drop)]
-pub struct Slot {
-    pub local: Local,
-    pub events: Vec<Event>,
+pub(crate) struct Slot {
+    pub(crate) local: Local,
+    pub(crate) events: Vec<Event>,
 }
 
 impl Slot {
@@ -86,7 +86,7 @@ impl Slot {
 /// The threads of a job so far, each with its events, in the order of paths.
 #[derive(Drop)]
 pub struct Config {
-    pub threads: Vec<Slot>,
+    threads: Vec<Slot>,
 }
 
 impl Config {
@@ -116,7 +116,7 @@ impl Config {
         requires { IsConfig (job_of job.now) self.now }
         ensures { IsReady (job_of job.now) (slots_of self.now) path.now result }
     {
-        check(job);
+        job_is_checked(job);
         match find(&self.threads, path) {
             Some(slot) => match slot.local.next(job) {
                 Next::Free => true,

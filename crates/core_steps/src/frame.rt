@@ -15,7 +15,7 @@ use std::alloc::{AllocError, Global};
 
 /// Which body a frame runs in.
 #[derive(Clone, Copy, Debug)]
-pub enum Root {
+pub(crate) enum Root {
     Main,
     /// That of the procedure of this number.
     Procedure(u32),
@@ -24,12 +24,12 @@ pub enum Root {
 /// A block of the program by the turns that lead to it from the body of a routine, how many of its actions are done, its
 /// values in scope, outermost first, and the priorities that its variables stand for.
 #[derive(Drop)]
-pub struct Frame {
-    pub root: Root,
-    pub turns: Vec<Turn>,
-    pub done: usize,
-    pub scope: Vec<Value>,
-    pub prios: Vec<u32>,
+pub(crate) struct Frame {
+    pub(crate) root: Root,
+    pub(crate) turns: Vec<Turn>,
+    pub(crate) done: usize,
+    pub(crate) scope: Vec<Value>,
+    pub(crate) prios: Vec<u32>,
 }
 
 // The routine.

@@ -1,5 +1,8 @@
+ghost use Rattle.core_steps.specs.Moves.{job_of};
 ghost use Rattle.core_steps.specs.Steps.{Job};
 ghost use Rattle.core_steps.specs.Laws.{CheckedLaws, CoreLaws, IsChecked, MeaningReadsInputs};
+
+use type_rules::Job as TheJob;
 
 /// What holds of the threads of every job.
 pub fn core_laws()
@@ -15,3 +18,10 @@ pub fn checked_laws()
 pub fn input_law()
     ensures { MeaningReadsInputs }
 {}
+
+/// The program of each job is typable, and in scope.
+pub fn job_is_checked(job: &TheJob)
+    ensures { IsChecked (job_of job.now) }
+{
+    let _program = job.checked().program();
+}

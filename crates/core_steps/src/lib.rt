@@ -14,9 +14,7 @@ mod numbers;
 mod place;
 mod step;
 
-pub use config::{Config, CoreStop, Slot};
+pub use config::{Config, CoreStop};
 pub use expressions::evaluate;
-pub use frame::{Frame, Root};
-pub use laws::{checked_laws, core_laws, input_law};
-pub use local::{Local, Mode, Moved, Next};
-pub use place::Turn;
+pub use laws::{checked_laws, core_laws, input_law, job_is_checked};
+pub use local::{Local, Moved, Next};

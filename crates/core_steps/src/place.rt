@@ -7,7 +7,7 @@ use priml_syntax::{Action, Block, TailForm};
 
 /// A turn from a block into a block within it.
 #[derive(Clone, Copy, Debug)]
-pub enum Turn {
+pub(crate) enum Turn {
     /// The block of the bind of this number.
     Bind(usize),
     /// The first branch of the ending.

@@ -7,18 +7,18 @@ ghost use Rattle.priml_syntax.specs.Read.{read_record};
 ghost use Rattle.priml_syntax.specs.declared.record.Record.{Record as TheRecord};
 ghost use Rattle.cost_graph.specs.Records.{AreFinished, parts_in};
 ghost use Rattle.core_steps.specs.Configs.{Advances, IsConfig, slots_of};
-ghost use Rattle.core_steps.specs.Laws.{HasGraph, IsChecked};
+ghost use Rattle.core_steps.specs.Laws.{HasGraph};
 ghost use Rattle.core_steps.specs.Meaning.{meaning as the_meaning, Finished, Over};
 ghost use Rattle.core_steps.specs.Moves.{job_of};
 ghost use Rattle.serial_meaning.specs.Serial.{Serial, GoesOnAt, MaySpawn, left_of};
 
-use core_steps::{Config, CoreStop};
+use core_steps::{Config, CoreStop, job_is_checked};
 use priml_syntax::{Event, Path, PathStop, Records};
 use std::alloc::{AllocError, Global};
 use type_rules::Job;
 
 /// Why there is no meaning within the limit.
-#[derive(Drop)]
+#[derive(Debug, Drop)]
 pub enum MeaningStop {
     /// The work exceeds the limit.
     Over,
@@ -53,7 +53,7 @@ pub fn meaning(alloc: Global, job: &Job, limit: u64) -> Result<Records, MeaningS
     ensures graph { IfOk result (λ r. HasGraph (job_of job.now) (map read_record r)) }
     ensures finished { limit < 2 ^ 32 → IfOk result (λ r. AreFinished (parts_in r)) }
 {
-    check(job);
+    job_is_checked(job);
     let mut config = Config::start(alloc, job)?;
     let mut active = first(alloc)?;
     run(&mut config, &mut active, alloc, job, limit)?;
@@ -87,7 +87,7 @@ fn run(
     ensures done { OnOk result ((n : ℕ) × (n ≤ limit) × Serial (job_of job.now) n (slots_of config.new) []) }
     ensures over { result ≡ Err MeaningStop.Over → the_meaning (job_of job.now) limit ≡ Over }
 {
-    check(job);
+    job_is_checked(job);
     let mut steps: u64 = 0;
     'steps: while active.len() > 0 {
         if steps >= limit {
@@ -182,11 +182,4 @@ fn child_of(alloc: Global, path: &Path, k: u32) -> Result<Path, AllocError>
         Err(PathStop::OutOfMemory) => Err(AllocError),
         Err(PathStop::TooDeep) => unreachable!(),
     }
-}
-
-// The program of a job is typable, and in scope.
-fn check(job: &Job)
-    ensures { IsChecked (job_of job.now) }
-{
-    let _program = job.checked().program();
 }

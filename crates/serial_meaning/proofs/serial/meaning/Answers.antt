@@ -28,14 +28,14 @@ returns-clause-ok c =
 pub returns-clause-declared : goal.returns-clause-declared
 returns-clause-declared c =
     let job = job_of c.args.job.now in
-    all_declared (length job.program.names) c.in-Some.records ((checked_laws job c.check.ensures).prios.meant (map read_record c.in-Some.records) c.args.limit (returns-clause-ok c))
+    all_declared (length job.program.names) c.in-Some.records ((checked_laws job c.job_is_checked.ensures).prios.meant (map read_record c.in-Some.records) c.args.limit (returns-clause-ok c))
 
 pub returns-clause-graph : goal.returns-clause-graph
 returns-clause-graph c =
     let job = job_of c.args.job.now in
-    (checked_laws job c.check.ensures).graphs.meant (map read_record c.in-Some.records) c.args.limit (returns-clause-ok c)
+    (checked_laws job c.job_is_checked.ensures).graphs.meant (map read_record c.in-Some.records) c.args.limit (returns-clause-ok c)
 
 pub returns-clause-finished : goal.returns-clause-finished
 returns-clause-finished c =
     let job = job_of c.args.job.now in
-    finished_below job c.check.ensures c.args.limit (map read_record c.in-Some.records) (returns-clause-ok c)
+    finished_below job c.job_is_checked.ensures c.args.limit (map read_record c.in-Some.records) (returns-clause-ok c)

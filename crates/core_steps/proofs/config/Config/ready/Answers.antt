@@ -14,7 +14,7 @@ has_ended-requires c = subst (λ xs. SlotsRise (map read_slot xs)) (sym c.deref-
 
 pub returns-in-Free : goal.returns-in-Free
 returns-in-Free c =
-    ready_free (job_of c.args.job.now) c.check.ensures (slots_of c.args.self.now) c.args.path.now (read_slot c.in-Some.slot.now) c.requires
+    ready_free (job_of c.args.job.now) c.job_is_checked.ensures (slots_of c.args.self.now) c.args.path.now (read_slot c.in-Some.slot.now) c.requires
     (ap (λ xs. slot_at (map read_slot xs) c.args.path.now) (sym c.deref.ensures.value) ∙ sym c.in-Some.ensures) c.in-Free.ensures
 
 pub returns-in-Awaits : goal.returns-in-Awaits

@@ -7,7 +7,7 @@ use Rattle.core_steps.proofs.StepLaws.{can_step, goes_counted, steps_on, steps_t
 use Rattle.core_steps.proofs.local.Local.step.Goals as goal
 
 pub make-requires-clause-can : goal.make-requires-clause-can
-make-requires-clause-can c = can_step (job_of c.args.job.now) c.check.ensures (read_local c.args.self.now) c.requires.state c.requires.live (read_awaited c.args.awaited) c.requires.fed
+make-requires-clause-can c = can_step (job_of c.args.job.now) c.job_is_checked.ensures (read_local c.args.self.now) c.requires.state c.requires.live (read_awaited c.args.awaited) c.requires.fed
 
 pub returns-clause-state : goal.returns-clause-state
 returns-clause-state c =

@@ -138,11 +138,13 @@ fn branch(alloc: Global, tokens: &mut Tokens) -> Result<RawTail, Stop>
 {
     let at = tokens.expect_word(Word::If)?;
     let test = expr(alloc, tokens)?;
-    let yes = block(alloc, tokens)?;
+    let yes = boxed_block(alloc, tokens)?;
     tokens.expect_word(Word::Else)?;
-    let no = block(alloc, tokens)?;
-    let form = RawTailForm::If(test, boxed(alloc, yes)?, boxed(alloc, no)?);
-    Ok(RawTail { at, form })
+    let no = boxed_block(alloc, tokens)?;
+    Ok(RawTail {
+        at,
+        form: RawTailForm::If(test, yes, no),
+    })
 }
 
 /// An ending by the two sides of a sum.
@@ -157,18 +159,26 @@ fn split(alloc: Global, tokens: &mut Tokens) -> Result<RawTail, Stop>
     let sum = expr(alloc, tokens)?;
     tokens.expect_word(Word::Inl)?;
     let first = tokens.name()?;
-    let left = block(alloc, tokens)?;
+    let left = boxed_block(alloc, tokens)?;
     tokens.expect_word(Word::Inr)?;
     let second = tokens.name()?;
-    let right = block(alloc, tokens)?;
-    let form = RawTailForm::Case(
-        sum,
-        first,
-        boxed(alloc, left)?,
-        second,
-        boxed(alloc, right)?,
-    );
-    Ok(RawTail { at, form })
+    let right = boxed_block(alloc, tokens)?;
+    Ok(RawTail {
+        at,
+        form: RawTailForm::Case(sum, first, left, second, right),
+    })
+}
+
+/// A block in braces, on the heap.
+#[cycle(block)]
+#[tactic(auto, using(crate::proofs::BlockSteps::steps, crate::proofs::BlockForms::forms))]
+fn boxed_block(alloc: Global, tokens: &mut Tokens) -> Result<Box<RawBlock>, Stop>
+    ensures ok { IfOk result (λ b. IsBlock tokens.old tokens.new (read_block b.value)) }
+    ensures moves { Moves Block tokens.old tokens.new result }
+    ensures shorter { IfOk result (λ _. length tokens.new < length tokens.old) }
+{
+    let body = block(alloc, tokens)?;
+    Ok(boxed(alloc, body)?)
 }
 
 fn boxed(alloc: Global, body: RawBlock) -> Result<Box<RawBlock>, AllocError>

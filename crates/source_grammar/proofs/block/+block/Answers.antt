@@ -31,10 +31,9 @@ block-returns-clause-ok t c = block_made _ _ _ _ _ _ _ _ c.in_ok-at.ensures.ok c
 
 pub branch-returns-clause-ok : goal.branch-returns-clause-ok
 branch-returns-clause-ok t c =
-    branch_made _ _ _ _ _ _ _ _ _ _ _ _ _ c.in_ok-at.ensures.ok c.in_ok-test.ensures.ok c.in_ok-yes.ensures.ok c.in_ok-expect_word.ensures.ok c.in_ok-no.ensures.ok c.in_ok-boxed.ensures
-    c.in_ok-boxed-2.ensures
+    branch_made _ _ _ _ _ _ _ _ _ _ _ _ _ c.in_ok-at.ensures.ok c.in_ok-test.ensures.ok c.in_ok-yes.ensures.ok c.in_ok-expect_word.ensures.ok c.in_ok-no.ensures.ok refl refl
 
 pub split-returns-clause-ok : goal.split-returns-clause-ok
 split-returns-clause-ok t c =
     split_made _ _ _ _ _ _ _ _ _ _ _ _ _ _ _ _ _ _ _ c.in_ok-at.ensures.ok c.in_ok-sum.ensures.ok c.in_ok-expect_word.ensures.ok c.in_ok-first.ensures.ok c.in_ok-left.ensures.ok
-    c.in_ok-expect_word-2.ensures.ok c.in_ok-second.ensures.ok c.in_ok-right.ensures.ok c.in_ok-boxed.ensures c.in_ok-boxed-2.ensures
+    c.in_ok-expect_word-2.ensures.ok c.in_ok-second.ensures.ok c.in_ok-right.ensures.ok refl refl

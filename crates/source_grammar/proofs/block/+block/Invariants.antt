@@ -18,6 +18,9 @@ decreases-binds l = 2 * length l.tokens.now + 1
 abbrev pub decreases-block : goal.decreases-block
 decreases-block l = 2 * length l.tokens.now
 
+abbrev pub decreases-boxed_block : goal.decreases-boxed_block
+decreases-boxed_block l = 2 * length l.tokens.now + 1
+
 abbrev pub decreases-branch : goal.decreases-branch
 decreases-branch l = 2 * length l.tokens.now
 

@@ -23,3 +23,5 @@ pub mod Ordered
 pub mod JobEnds
 pub mod Unfit
 pub mod Frontiers
+pub mod Edges
+pub mod SomeGraph

@@ -13,15 +13,16 @@ use Rattle.priml_syntax.specs.declared.record.Record.{Record}
 use Rattle.priml_syntax.specs.declared.event.Event.{Event}
 use Rattle.priml_syntax.specs.Read.{read_record}
 use Rattle.priml_syntax.specs.Records.{InPathOrder}
+use Rattle.priml_syntax.specs.Values.{Entry}
 use Rattle.cost_graph.specs.declared.graph.Thread.{Thread}
 use Rattle.cost_graph.specs.declared.records.Tables.{Tables}
 use Rattle.cost_graph.specs.Graph.{Vertex, thread_at, first_vertex, name_in, IsGraph}
 use Rattle.cost_graph.specs.View.{lists, graph_of}
-use Rattle.cost_graph.specs.Records.{Part, part_of, parts_in, part_at, event_total, end_of, thread_of, AreFinished, IsEdge, IsGraphOf}
+use Rattle.cost_graph.specs.Records.{Part, part_of, parts_of, parts_in, part_at, event_total, end_of, thread_of, AreFinished, IsEdge, IsGraphOf}
 use Rattle.cost_graph.specs.Tables.{part_nth, first_in, vertex_at, IsNumber, AreParents, AreRight, AreSpawnPlaces, AreFirstsOf, AreKnown}
 use Rattle.cost_graph.proofs.Members.{no_member}
 use Rattle.cost_graph.proofs.Grown.{list_at, lists_length}
-use Rattle.cost_graph.proofs.Parts.{AreApart, parts_length, nth_of, apart_in, threads_in_order, part_here, one_part, events_few, firsts_same, totals_same, thread_nth, number_small, number_at, number_named, numbered, name_at}
+use Rattle.cost_graph.proofs.Parts.{AreApart, parts_length, nth_of, apart_in, apart_of, threads_in_order, part_here, one_part, events_few, firsts_same, totals_same, thread_nth, number_small, number_at, number_named, numbered, name_at}
 use Rattle.cost_graph.proofs.Arrows.{has_events}
 
 -- ---- lists with one item more
@@ -93,17 +94,17 @@ end_number xs s p x finished apart lt is there =
 
 -- ---- the graph
 
-module _ (rs : List Record) (order : InPathOrder (map read_record rs)) (finished : AreFinished (parts_in rs)) (parents : List (List ℕ)) (long : length parents ≡ event_total (parts_in rs)) (right : AreRight (parts_in rs) parents) where
-  thread_is : (t : ℕ) → t < length (map thread_of (parts_in rs)) → t < length (parts_in rs)
-  thread_is t lt = omega (arith, lt, length-map (parts_in rs) thread_of)
+module _ (es : List Entry) (order : InPathOrder es) (finished : AreFinished (parts_of es)) (parents : List (List ℕ)) (long : length parents ≡ event_total (parts_of es)) (right : AreRight (parts_of es) parents) where
+  thread_is : (t : ℕ) → t < length (map thread_of (parts_of es)) → t < length (parts_of es)
+  thread_is t lt = omega (arith, lt, length-map (parts_of es) thread_of)
 
-  vertices_are : (t : ℕ) → t < length (parts_in rs) → (thread_at (record { threads = map thread_of (parts_in rs); parents = parents }) t).vertices ≡ length (part_nth (parts_in rs) t).events
-  vertices_are t lt = ap (λ x. x.vertices) (thread_nth (parts_in rs) t lt)
+  vertices_are : (t : ℕ) → t < length (parts_of es) → (thread_at (record { threads = map thread_of (parts_of es); parents = parents }) t).vertices ≡ length (part_nth (parts_of es) t).events
+  vertices_are t lt = ap (λ x. x.vertices) (thread_nth (parts_of es) t lt)
 
   ends_small : (u v : ℕ) → Contains (get_or parents v []) u → u < length parents
   ends_small u v c =
       elim (cases_lt v (length parents)) [
-        | inl early ↦ let r = (right v early).only u c in omega (arith, number_small (parts_in rs) r.0 u r.1, long)
+        | inl early ↦ let r = (right v early).only u c in omega (arith, number_small (parts_of es) r.0 u r.1, long)
         | inr late ↦ absurd (no_member u (subst (λ (l : List ℕ). Contains l u) (get_or_past parents v [] late) c))
       ]
 
@@ -114,35 +115,35 @@ module _ (rs : List Record) (order : InPathOrder (map read_record rs)) (finished
         | inr late ↦ subst IsStrictlyIncreasing (sym (get_or_past parents v [] late)) (λ k lt. let z : k + 1 < 0 = lt in absurd (omega (arith, z)))
       ]
 
-  continues : (t k : ℕ) → t < length (parts_in rs) → k + 1 < length (part_nth (parts_in rs) t).events → Contains (get_or parents (first_in (parts_in rs) t + (k + 1)) []) (first_in (parts_in rs) t + k)
+  continues : (t k : ℕ) → t < length (parts_of es) → k + 1 < length (part_nth (parts_of es) t).events → Contains (get_or parents (first_in (parts_of es) t + (k + 1)) []) (first_in (parts_of es) t + k)
   continues t k lt k_lt =
-      let xs : List Part = parts_in rs in
+      let xs : List Part = parts_of es in
       let v : ℕ = first_in xs t + (k + 1) in
       let v_lt : v < length parents = omega (arith, k_lt, events_few xs t lt, long) in
       let named : name_in (map thread_of xs) v ≡ vertex_at xs t (k + 1) = name_at xs t (k + 1) v lt k_lt refl in
       let here : AreParents xs (vertex_at xs t (k + 1)) (get_or parents v []) = subst (λ (w : Vertex). AreParents xs w (get_or parents v [])) named (right v v_lt) in
-      let there = part_here xs t (apart_in rs order) lt in
+      let there = part_here xs t (apart_of es order) lt in
       here.has (vertex_at xs t k) (first_in xs t + k) (number_at xs t k lt (omega (arith, k_lt))) (inl ((part_nth xs t, there, k_lt), refl, refl))
 
-  pub made_graph : IsGraph (record { threads = map thread_of (parts_in rs); parents = parents })
+  pub made_graph : IsGraph (record { threads = map thread_of (parts_of es); parents = parents })
   made_graph =
       record {
-        covers = totals_same (parts_in rs) ∙ sym long;
+        covers = totals_same (parts_of es) ∙ sym long;
         small = omega (arith, long, finished.few);
-        filled = λ t lt. omega (arith, has_events (parts_in rs) finished (apart_in rs order) t (thread_is t lt), vertices_are t (thread_is t lt));
-        in_order = threads_in_order (map read_record rs) order;
+        filled = λ t lt. omega (arith, has_events (parts_of es) finished (apart_of es order) t (thread_is t lt), vertices_are t (thread_is t lt));
+        in_order = threads_in_order es order;
         ends = ends_small;
         rising = all_rise;
         goes_on = λ t k lt k_lt.
-            let below : k + 1 < length (part_nth (parts_in rs) t).events = omega (arith, k_lt, vertices_are t (thread_is t lt)) in
+            let below : k + 1 < length (part_nth (parts_of es) t).events = omega (arith, k_lt, vertices_are t (thread_is t lt)) in
             let c = continues t k (thread_is t lt) below in
-            let e = firsts_same (parts_in rs) t in
-            let first : first_in (parts_in rs) t + k ≡ first_vertex (record { threads = map thread_of (parts_in rs); parents = parents }) t + k = omega (arith, e) in
-            let next : first_in (parts_in rs) t + (k + 1) ≡ first_vertex (record { threads = map thread_of (parts_in rs); parents = parents }) t + k + 1 = omega (arith, e) in
-            subst (λ n. Contains (get_or parents n []) (first_vertex (record { threads = map thread_of (parts_in rs); parents = parents }) t + k)) next (subst (Contains (get_or parents (first_in (parts_in rs) t + (k + 1)) [])) first c);
+            let e = firsts_same (parts_of es) t in
+            let first : first_in (parts_of es) t + k ≡ first_vertex (record { threads = map thread_of (parts_of es); parents = parents }) t + k = omega (arith, e) in
+            let next : first_in (parts_of es) t + (k + 1) ≡ first_vertex (record { threads = map thread_of (parts_of es); parents = parents }) t + k + 1 = omega (arith, e) in
+            subst (λ n. Contains (get_or parents n []) (first_vertex (record { threads = map thread_of (parts_of es); parents = parents }) t + k)) next (subst (Contains (get_or parents (first_in (parts_of es) t + (k + 1)) [])) first c);
       }
 
-  pub made_of : IsGraphOf (parts_in rs) (record { threads = map thread_of (parts_in rs); parents = parents })
+  pub made_of : IsGraphOf (parts_of es) (record { threads = map thread_of (parts_of es); parents = parents })
   made_of =
       record {
         threads = refl;
@@ -150,20 +151,20 @@ module _ (rs : List Record) (order : InPathOrder (map read_record rs)) (finished
         kept = made_graph;
       }
     where
-      named : (u v : ℕ) → v < length parents → Contains (get_or parents v []) u → IsEdge (parts_in rs) (name_in (map thread_of (parts_in rs)) u) (name_in (map thread_of (parts_in rs)) v)
+      named : (u v : ℕ) → v < length parents → Contains (get_or parents v []) u → IsEdge (parts_of es) (name_in (map thread_of (parts_of es)) u) (name_in (map thread_of (parts_of es)) v)
       named u v v_lt c =
           let r = (right v v_lt).only u c in
-          subst (λ (w : Vertex). IsEdge (parts_in rs) w (name_in (map thread_of (parts_in rs)) v)) (sym (number_named (parts_in rs) r.0 u r.1)) r.2
+          subst (λ (w : Vertex). IsEdge (parts_of es) w (name_in (map thread_of (parts_of es)) v)) (sym (number_named (parts_of es) r.0 u r.1)) r.2
 
-      numbers : (u v : ℕ) → u < length parents → v < length parents → IsEdge (parts_in rs) (name_in (map thread_of (parts_in rs)) u) (name_in (map thread_of (parts_in rs)) v) → Contains (get_or parents v []) u
-      numbers u v u_lt v_lt e = (right v v_lt).has (name_in (map thread_of (parts_in rs)) u) u (numbered (parts_in rs) u (omega (arith, u_lt, long))) e
+      numbers : (u v : ℕ) → u < length parents → v < length parents → IsEdge (parts_of es) (name_in (map thread_of (parts_of es)) u) (name_in (map thread_of (parts_of es)) v) → Contains (get_or parents v []) u
+      numbers u v u_lt v_lt e = (right v v_lt).has (name_in (map thread_of (parts_of es)) u) u (numbered (parts_of es) u (omega (arith, u_lt, long))) e
 
 -- the same for what is known of the list that the records gave
 pub made_of_list : (l rs : List Record) (ts : List Thread) (ps : List (Vec ℕ Global)) → l ≡ rs → InPathOrder (map read_record l) → AreFinished (parts_in rs) → ts ≡ map thread_of (parts_in l) → length ps ≡ event_total (parts_in l) → AreRight (parts_in l) (lists ps)
     → IsGraphOf (parts_in rs) (graph_of ts ps)
 made_of_list l rs ts ps same order finished e long right =
     let there : AreFinished (parts_in l) = subst (λ (z : List Record). AreFinished (parts_in z)) (sym same) finished in
-    let made = made_of l order there (lists ps) (lists_length ps ∙ long) right in
+    let made = made_of (map read_record l) order there (lists ps) (lists_length ps ∙ long) right in
     subst (λ (z : List Record). IsGraphOf (parts_in z) (graph_of ts ps)) same (subst (λ (z : List Thread). IsGraphOf (parts_in l) (graph_of z ps)) (sym e) made)
 
 pub apart_of_list : (l rs : List Record) → l ≡ rs → InPathOrder (map read_record l) → AreApart (parts_in rs)

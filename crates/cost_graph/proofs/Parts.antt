@@ -57,9 +57,8 @@ parts_rise (e ∷ es) (suc i) (suc j) h less lt = parts_rise es i j h.1 (omega (
 abbrev pub AreApart : List Part → Type 0
 AreApart xs = (i j : ℕ) → i < length xs → j < length xs → (part_nth xs i).path ≡ (part_nth xs j).path → i ≡ j
 
-pub apart_in : (rs : List Record) → InPathOrder (map read_record rs) → AreApart (parts_in rs)
-apart_in rs order i j i_lt j_lt e =
-    let es : List Entry = map read_record rs in
+pub apart_of : (es : List Entry) → InPathOrder es → AreApart (parts_of es)
+apart_of es order i j i_lt j_lt e =
     let long : length (parts_of es) ≡ length es = length-map es part_of in
     let q : List ℕ = (part_nth (parts_of es) j).path in
     elim (cases_lt i j) [
@@ -69,6 +68,9 @@ apart_in rs order i j i_lt j_lt e =
         | inr less ↦ omega (arith, more, less)
       ]
     ]
+
+pub apart_in : (rs : List Record) → InPathOrder (map read_record rs) → AreApart (parts_in rs)
+apart_in rs order = apart_of (map read_record rs) order
 
 each_thread : (p : List ℕ) (es : List Entry) → Each (λ (x : Entry). Precedes p x.path) es → AllByRecursion (λ (x : Thread). Precedes p x.path) (map thread_of (parts_of es))
 each_thread p [] h = tt

@@ -10,3 +10,4 @@ pub mod Tables
 pub mod RecordLines
 pub mod Finished
 pub mod Shape
+pub mod Laws

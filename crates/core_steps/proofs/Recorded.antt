@@ -15,7 +15,7 @@ use Rattle.core_steps.specs.Steps.{Job, outcome_in}
 use Rattle.core_steps.specs.Config.{Thread, IsFinished, entry_then, entry_of, records_of}
 use Rattle.core_steps.specs.Configs.{SlotFields, entry_from, entry_with, records_from, SlotsRise, AreSlots, AreRecords}
 use Rattle.core_steps.proofs.Interleavings.{finished_agrees}
-use Rattle.core_steps.proofs.Slots.{Stands, AllStand, all_stand, path_stands, ended_stands, slots_rise, prio_stands}
+use Rattle.core_steps.proofs.Slots.{Stands, AllStand, all_stand, path_stands, ended_stands, prio_stands}
 
 -- the records, where there are any, behind these
 abbrev pub behind : List Entry → Option (List Entry) → Option (List Entry)
@@ -56,8 +56,8 @@ records_rise (s ∷ ss) h = go (ended_with s.local.mode) (records_from ss) (each
     go (Some o) None k i = tt
     go (Some o) (Some es) k i = (k, i)
 
-pub records_in_order : (job : Job) (ss : List SlotFields) (rs : List Entry) → AreSlots job ss → Some rs ≡ records_from ss → InPathOrder rs
-records_in_order job ss rs c e = subst (λ o. IfSome o InPathOrder) (sym e) (records_rise ss (slots_rise job ss c))
+pub records_in_order : (ss : List SlotFields) (rs : List Entry) → SlotsRise ss → Some rs ≡ records_from ss → InPathOrder rs
+records_in_order ss rs c e = subst (λ o. IfSome o InPathOrder) (sym e) (records_rise ss c)
 
 -- and there are none exactly where some thread has not ended
 finished_some : (ts : List Thread) → IsFinished ts → records_of ts ≡ None → ⊥

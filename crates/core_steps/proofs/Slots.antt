@@ -10,7 +10,7 @@ use Rattle.core_steps.specs.Fields.{LocalFields, Mode', fresh, running, failing,
 use Rattle.core_steps.specs.Locals.{ended_with}
 use Rattle.core_steps.specs.Steps.{Job, Phase, State, outcome_in}
 use Rattle.core_steps.specs.Config.{Thread, thread_at, begin, IsFinished}
-use Rattle.core_steps.specs.Configs.{SlotFields, IsCounted, thread_of, threads_from, slot_at, SlotsRise, AreSlots, all_end}
+use Rattle.core_steps.specs.Configs.{SlotFields, IsCounted, thread_of, threads_from, slot_at, SlotsRise, AreKept, AreSlots, all_end}
 use Rattle.core_steps.proofs.StepLaws.{state_path, live_phase}
 use Rattle.core_steps.proofs.Standing.{ended_state}
 use Rattle.core_steps.proofs.Moves.{in_phase}
@@ -114,6 +114,10 @@ rise_stands p (s ∷ ss) (t ∷ ts) h o = (rise_each p s.local.path ss ts h.1 (s
 
 pub slots_rise : (job : Job) (ss : List SlotFields) → AreSlots job ss → SlotsRise ss
 slots_rise job ss c = rise_stands job.program ss c.threads (all_stand job.program ss c.threads c.reads) (Closed.order (reached_closed job c.threads c.reached))
+
+-- what holds of each configuration holds of one of a job
+pub kept_slots : (job : Job) (ss : List SlotFields) → AreSlots job ss → AreKept ss
+kept_slots job ss c = record { rise = slots_rise job ss c; counted = c.counted }
 
 -- what a path finds
 abbrev pub BothFind : Tree → Option SlotFields → Option Thread → Type 0

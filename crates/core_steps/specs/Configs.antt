@@ -8,7 +8,6 @@ use Rattle.priml_syntax.specs.Values.{Outcome', Entry}
 use Rattle.priml_syntax.specs.Records.{work}
 use Rattle.priml_syntax.specs.Paths.{same_path, path_lt, Precedes}
 use Rattle.core_steps.specs.declared.config.Slot.{Slot}
-use Rattle.core_steps.specs.declared.config.Config.{Config}
 use Rattle.core_steps.specs.declared.config.CoreStop.{CoreStop}
 use Rattle.core_steps.specs.declared.config.CoreStop.TheVariants.{NoThread, Ended, Waits, OutOfMemory}
 use Rattle.priml_syntax.specs.declared.value.Outcome.{Outcome}
@@ -30,8 +29,8 @@ pub record SlotFields : Type 0 where
 abbrev pub read_slot : Slot → SlotFields
 read_slot s = record { local = read_local s.local; events = s.events.items }
 
-abbrev pub slots_of : Config → List SlotFields
-slots_of c = map read_slot c.threads.items
+abbrev pub slots_of : List Slot → List SlotFields
+slots_of c = map read_slot c
 
 -- the thread that a slot stands for; none where turns lead nowhere
 abbrev pub thread_of : Tree → SlotFields → Option Thread
@@ -42,7 +41,7 @@ threads_from p [] = Some []
 threads_from p (s ∷ ss) = option_and_then (λ t. option_map (λ ts. t ∷ ts) (threads_from p ss)) (thread_of p s)
 
 -- the threads that a configuration stands for
-abbrev pub threads_of : Tree → Config → Option (List Thread)
+abbrev pub threads_of : Tree → List Slot → Option (List Thread)
 threads_of p c = threads_from p (slots_of c)
 
 -- the slot of a path
@@ -59,6 +58,11 @@ SlotsRise (s ∷ ss) = AllByRecursion (λ x. Precedes s.local.path x.local.path)
 abbrev pub IsCounted : SlotFields → Type 0
 IsCounted s = s.local.steps ≡ length s.events
 
+-- what holds of the slots of each configuration, of whatever job
+pub record AreKept (ss : List SlotFields) : Type 0 where
+  pub rise : SlotsRise ss
+  pub counted : AllByRecursion IsCounted ss
+
 -- the slots stand for a reached configuration of the job
 pub record AreSlots (job : Job) (ss : List SlotFields) : Type 0 where
   pub threads : List Thread
@@ -67,7 +71,7 @@ pub record AreSlots (job : Job) (ss : List SlotFields) : Type 0 where
   pub counted : AllByRecursion IsCounted ss
 
 -- and so do those of a configuration
-abbrev pub IsConfig : Job → Config → Type 0
+abbrev pub IsConfig : Job → List Slot → Type 0
 IsConfig job c = AreSlots job (slots_of c)
 
 -- whether each thread has ended

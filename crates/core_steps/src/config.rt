@@ -24,6 +24,7 @@ use crate::local::{Local, Moved, Next};
 use priml_syntax::{Event, Outcome, Path, Record, Records};
 use std::alloc::{AllocError, Global};
 use std::cmp::Ordering;
+use std::marker::Model;
 use type_rules::Job;
 
 /// Why a thread made no step.
@@ -89,6 +90,22 @@ pub struct Config {
     threads: Vec<Slot>,
 }
 
+impl Model for Config {
+    ghost use Rattle.std.specs.Prelude.{List, map};
+    ghost use Rattle.std.specs.Coded.{codes};
+    ghost use Rattle.priml_syntax.specs.contracts.value.Value as value;
+    ghost use Rattle.core_steps.specs.declared.config.Slot.{Slot};
+    ghost use Rattle.core_steps.specs.Configs.{AreKept, read_slot};
+
+    ghost Value = { List Slot };
+
+    ghost coded = { Prim.hlevel (codes, value.the_row.coded) };
+
+    ghost view = { λ c. c.threads.items };
+
+    ghost invariant = { λ c. AreKept (map read_slot c.threads.items) };
+}
+
 impl Config {
     /// The root alone.
     pub fn start(alloc: Global, job: &Job) -> Result<Config, AllocError>
@@ -106,7 +123,8 @@ impl Config {
 
     /// Whether each thread has ended.
     pub fn all_ended(&self) -> bool
-        ensures { (job : TheJob) → (is : IsConfig job self.now) → (result ≡ true) ↔ IsFinished is.threads }
+        ensures slots { result ≡ all_end (slots_of self.now) }
+        ensures threads { (job : TheJob) → (is : IsConfig job self.now) → (result ≡ true) ↔ IsFinished is.threads }
     {
         each_ended(&self.threads)
     }
@@ -150,7 +168,7 @@ impl Config {
     /// The records, which are those of the serial meaning; None exactly where some thread has not ended. Those of a checked job have
     /// declared priorities and a graph.
     pub fn records(&self, alloc: Global) -> Result<Option<Records>, AllocError>
-        requires { (job : TheJob) × IsConfig job self.now }
+        ensures slots { IfOk result (λ r. option_map (map read_record) r ≡ records_from (slots_of self.now)) }
         ensures told { IfOk result (λ r. (job : TheJob) → (is : IsConfig job self.now) → AreRecords job is.threads (option_map (map read_record) r)) }
         ensures declared { IfOk result (λ r. IfSome r (λ rs. (job : TheJob) → IsConfig job self.now → IsChecked job → All (λ (x : TheRecord). x.prio < length job.program.names) rs)) }
         ensures graph { IfOk result (λ r. IfSome r (λ rs. (job : TheJob) → IsConfig job self.now → IsChecked job → HasGraph job (map read_record rs))) }

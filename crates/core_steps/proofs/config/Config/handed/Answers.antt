@@ -2,15 +2,14 @@ use Rattle.std.proofs.Common.{rules, ◌≡◌, map, sym, ◌∙◌, ap, subst}
 use Rattle.std.specs.Prelude.{Err}
 use Rattle.core_steps.specs.Configs.{IsEnded, IsGivenIn, SlotsRise, outcome_of, read_slot, slot_at, slots_of}
 use Rattle.core_steps.specs.Moves.{job_of}
-use Rattle.core_steps.proofs.Slots.{slots_rise}
 use Rattle.core_steps.proofs.Choices.{handed_none, handed_ended, handed_free, handed_awaits, handed_stops}
 use Rattle.core_steps.proofs.config.Config.handed.Goals as goal
 
 pub find-requires : goal.find-requires
-find-requires c = subst (λ xs. SlotsRise (map read_slot xs)) (sym c.deref.ensures.value) (slots_rise (job_of c.args.job.now) (slots_of c.args.self.now) c.requires)
+find-requires c = subst (λ xs. SlotsRise (map read_slot xs)) (sym c.deref.ensures.value) c.self.invariant.rise
 
 pub ended-requires : goal.ended-requires
-ended-requires c = subst (λ xs. SlotsRise (map read_slot xs)) (sym c.deref-in-Awaits.ensures.value) (slots_rise (job_of c.args.job.now) (slots_of c.args.self.now) c.requires)
+ended-requires c = subst (λ xs. SlotsRise (map read_slot xs)) (sym c.deref-in-Awaits.ensures.value) c.self.invariant.rise
 
 pub returns-in_err-ended-in-Awaits : goal.returns-in_err-ended-in-Awaits
 returns-in_err-ended-in-Awaits c =
@@ -18,24 +17,24 @@ returns-in_err-ended-in-Awaits c =
     let is : c.from_residual.result ≡ Err why = search rules in
     λ ts reads. subst (IsGivenIn ts c.args.path.now) (sym is)
     (handed_stops (job_of c.args.job.now) (slots_of c.args.self.now) c.args.path.now c.in-Awaits.awaited.now (read_slot c.in-Some.slot.now) why
-    (ap (λ xs. slot_at (map read_slot xs) c.args.path.now) (sym c.deref.ensures.value) ∙ sym c.in-Some.ensures) c.in-Awaits.ensures
-    (subst (λ xs. IsEnded (map read_slot xs) c.in-Awaits.awaited.now (Err why)) c.deref-in-Awaits.ensures.value c.in_err-ended-in-Awaits.ensures) ts reads)
+    (ap (λ xs. slot_at (map read_slot xs) c.args.path.now) (sym (c.deref.ensures.value ∙ c.self.view_is)) ∙ sym c.in-Some.ensures) c.in-Awaits.ensures
+    (subst (λ xs. IsEnded (map read_slot xs) c.in-Awaits.awaited.now (Err why)) (c.deref-in-Awaits.ensures.value ∙ c.self.view_is) c.in_err-ended-in-Awaits.ensures) ts reads)
 
 pub returns-in-Free : goal.returns-in-Free
 returns-in-Free c =
     handed_free (job_of c.args.job.now) (slots_of c.args.self.now) c.args.path.now (read_slot c.in-Some.slot.now)
-    (ap (λ xs. slot_at (map read_slot xs) c.args.path.now) (sym c.deref.ensures.value) ∙ sym c.in-Some.ensures) c.in-Free.ensures
+    (ap (λ xs. slot_at (map read_slot xs) c.args.path.now) (sym (c.deref.ensures.value ∙ c.self.view_is)) ∙ sym c.in-Some.ensures) c.in-Free.ensures
 
 pub returns-in_ok-ended-in-Awaits : goal.returns-in_ok-ended-in-Awaits
 returns-in_ok-ended-in-Awaits c =
     handed_awaits (job_of c.args.job.now) (slots_of c.args.self.now) c.args.path.now c.in-Awaits.awaited.now (read_slot c.in-Some.slot.now) c.in_ok-ended-in-Awaits.field-0
-    (ap (λ xs. slot_at (map read_slot xs) c.args.path.now) (sym c.deref.ensures.value) ∙ sym c.in-Some.ensures) c.in-Awaits.ensures
-    (let e = c.in_ok-ended-in-Awaits.ensures in (e.0, ap (λ xs. outcome_of (slot_at (map read_slot xs) c.in-Awaits.awaited.now)) (sym c.deref-in-Awaits.ensures.value) ∙ e.1))
+    (ap (λ xs. slot_at (map read_slot xs) c.args.path.now) (sym (c.deref.ensures.value ∙ c.self.view_is)) ∙ sym c.in-Some.ensures) c.in-Awaits.ensures
+    (let e = c.in_ok-ended-in-Awaits.ensures in (e.0, ap (λ xs. outcome_of (slot_at (map read_slot xs) c.in-Awaits.awaited.now)) (sym (c.deref-in-Awaits.ensures.value ∙ c.self.view_is)) ∙ e.1))
 
 pub returns-in-Ended : goal.returns-in-Ended
 returns-in-Ended c =
     handed_ended (job_of c.args.job.now) (slots_of c.args.self.now) c.args.path.now (read_slot c.in-Some.slot.now)
-    (ap (λ xs. slot_at (map read_slot xs) c.args.path.now) (sym c.deref.ensures.value) ∙ sym c.in-Some.ensures) c.in-Ended.ensures
+    (ap (λ xs. slot_at (map read_slot xs) c.args.path.now) (sym (c.deref.ensures.value ∙ c.self.view_is)) ∙ sym c.in-Some.ensures) c.in-Ended.ensures
 
 pub returns-in-None : goal.returns-in-None
-returns-in-None c = handed_none (job_of c.args.job.now) (slots_of c.args.self.now) c.args.path.now (ap (λ xs. slot_at (map read_slot xs) c.args.path.now) (sym c.deref.ensures.value) ∙ sym c.in-None.ensures)
+returns-in-None c = handed_none (job_of c.args.job.now) (slots_of c.args.self.now) c.args.path.now (ap (λ xs. slot_at (map read_slot xs) c.args.path.now) (sym (c.deref.ensures.value ∙ c.self.view_is)) ∙ sym c.in-None.ensures)

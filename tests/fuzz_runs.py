@@ -53,7 +53,7 @@ def tree(r):
     def block(own, scope, depth):
         nonlocal left
         binds, scope = "", list(scope)
-        for _ in range(r.randrange(1, 6)):
+        for _ in range(r.choice([4, 8, 18]) if depth == 4 else r.randrange(1, 6)):
             kind, name = r.random(), "n%d" % len(scope)
             threads = [(x, p) for x, p in scope if p and is_at_most(pairs, own, p)]
             if kind < 0.45 and depth > 0 and left > 0 and len(scope) < 20:
@@ -95,6 +95,9 @@ def arithmetic(r):
         if depth == 0 or r.random() < 0.3:
             return r.choice(["true", "false", "( ( 1 / 0 ) == 1 )", "( %s %s %s )" % (number(1), r.choice(["<", "<=", "=="]), number(1))])
         return r.choice(["not ( %s )", "( false and %s )", "( true or %s )", "( %%s %s %%s )" % r.choice(["and", "or"])]).replace("%s", test(depth - 1))
+    if r.random() < 0.6:
+        kind, one = r.choice([("int", number(3)), ("int", number(4)), ("bool", test(2)), ("bool", test(3))])
+        return ("priority p ; main at p : %s { ret %s }" % (kind, one)).split()
     return ("priority p ; proc f ( a : int , b : bool ) at p : int { o <- output a ; if b { ret a } else { ret 0 } } "
             "main at p : ( int * bool ) { h <- spawn [ p ] { x <- call f ( %s , %s ) ; ret x } ; o <- output %s ; x <- sync h ; ret ( x , %s ) }"
             % (number(2), test(1), number(2), test(2))).split()
@@ -114,7 +117,7 @@ def reader(r):
 
 def running(r):
     makers = [lambda r: Typed(r, ends=True).program().split(), tree, deep, arithmetic, reader]
-    return spaced(r, r.choices(makers, [35, 20, 5, 25, 15])[0](r))
+    return spaced(r, r.choices(makers, [28, 34, 3, 22, 13])[0](r))
 
 
 # ---------------------------------------------------------------- inputs
@@ -180,7 +183,8 @@ def bad_inputs(r, commands):
         again = [line for line in lines if line[:1] == "0"]
         line = r.choice(again) if again and r.random() < 0.5 else r.choice(BAD_INPUTS + ["0: 1", "0:", "0.0:"])
         lines.insert(r.randrange(len(lines) + 1), line)
-    return words(r, any_command(r, commands), [1, 300, 2000]), joined(r, running(r), section(r, "inputs", lines))
+    unread = section(r, "schedule", ["0;0"]) if r.random() < 0.2 else []
+    return words(r, any_command(r, commands), [1, 300, 2000]), joined(r, running(r), section(r, "inputs", lines), unread)
 
 
 def large(r, commands):
@@ -193,7 +197,7 @@ def large(r, commands):
     given = words(r, command, [100000, 100000, 10 * n + 9, 10 * n + 9, 10 * n + 8])
     if command == b"judge":
         lines = model.answer([b"plan"] + given[1:], data)[1].decode().split("\n")[:-1]
-        if r.random() < 0.2:
+        if r.random() < 0.4:
             lines.insert(r.choice([len(lines) // 2, 0]), "")
         data = joined(r, data, section(r, "schedule", lines))
     return given, data
@@ -270,7 +274,8 @@ def flawed(r, steps_, graph, cores):
     elif kind == "twice":
         step[r.randrange(len(step))] = r.choice(sorted(done) + step)
     elif kind == "unready" and later:
-        step.insert(r.randrange(len(step) + 1), r.choice(later[:5] + later))
+        for v in r.sample(later[:9], min(len(later[:9]), r.choice([1, 2, 3]))):
+            step.insert(r.randrange(len(step) + 1), v)
         del step[cores:]
     elif kind == "idle":
         step.pop(r.randrange(len(step)))
@@ -308,7 +313,7 @@ def judged(r, make, lines=lambda r, lines: lines):
     else:
         data = spaced(r, "priority p ; main at p : int { h <- spawn [ p ] { ret 1 } ; ret 2 }".split())
         found = run_of(data)
-    given = words(r, b"judge", [found.work, 2000, 100000])
+    given = words(r, b"judge", [found.work] * 5 + [2000, 100000, found.work - 1])
     text = lines(r, schedule_lines(r, make(found.graph, int(given[1]))))
     if b"\n===" in data or r.random() < 0.9:
         return given, joined(r, data, section(r, "schedule", text))

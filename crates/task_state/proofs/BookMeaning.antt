@@ -3,17 +3,17 @@ use Rattle.std.proofs.Common.{◌≡◌, Some, sym, ◌∙◌, arith}
 use Rattle.std.proofs.lemmas.List.Sorted.{Contains-permutation, IsPermutation-sym}
 use Rattle.priml_syntax.specs.Records.{work as work_of_records}
 use Rattle.core_steps.specs.Determined.{steps_of}
-use Rattle.core_steps.specs.Laws.{CheckedLaws, IsChecked}
+use Rattle.core_steps.specs.Laws.{CoreLaws}
 use Rattle.core_steps.specs.Steps.{Job}
 use Rattle.core_steps.proofs.Agree.{finished_is_complete}
-use Rattle.core_steps.proofs.CheckedLaws.{checked_laws}
+use Rattle.core_steps.proofs.CoreLaws.{core_laws}
 use Rattle.trace_book.specs.Book.{entries_of, work}
 use Rattle.task_state.specs.Books.{FinishedBooksAgree}
 use Rattle.task_state.proofs.Books.{entries_work, finished_records, same_records, same_work}
 
-pub books_agree : (job : Job) → IsChecked job → FinishedBooksAgree job
-books_agree job checked c logs ls n reached finished read order few =
-    let laws : CheckedLaws job = checked_laws job checked in
+pub books_agree : (job : Job) → FinishedBooksAgree job
+books_agree job c logs ls n reached finished read order few =
+    let laws : CoreLaws job = core_laws job in
     let r = finished_records c finished in
     let whole = laws.agrees c r.0 (steps_of c) reached r.1 (omega arith) in
     let sorted = (finished_is_complete job r.0 (steps_of c) whole.0).1 in

@@ -9,14 +9,14 @@ use Rattle.priml_syntax.specs.Paths.{same_path, Precedes}
 use Rattle.core_steps.specs.Fields.{LocalFields, Mode', fresh, running, failing, ended, phase_of, state_of}
 use Rattle.core_steps.specs.Locals.{ended_with}
 use Rattle.core_steps.specs.Steps.{Job, Phase, State, outcome_in}
-use Rattle.core_steps.specs.Config.{Thread, thread_at, begin, IsFinished}
+use Rattle.core_steps.specs.Config.{Thread, thread_at, IsFinished}
 use Rattle.core_steps.specs.Configs.{SlotFields, IsCounted, thread_of, threads_from, slot_at, SlotsRise, AreKept, AreSlots, all_end}
 use Rattle.core_steps.proofs.StepLaws.{state_path, live_phase}
 use Rattle.core_steps.proofs.Standing.{ended_state}
 use Rattle.core_steps.proofs.Moves.{in_phase}
 use Rattle.core_steps.proofs.Threads.{InOrder}
 use Rattle.core_steps.proofs.Closed.{Closed}
-use Rattle.core_steps.proofs.Starts.{starts, reached_closed}
+use Rattle.core_steps.proofs.Starts.{reached_closed}
 
 -- the slot stands for the thread
 pub record Stands (p : Tree) (s : SlotFields) (t : Thread) : Type 0 where
@@ -30,7 +30,7 @@ AllStand p [] (t ∷ ts) = ⊥
 AllStand p (s ∷ ss) [] = ⊥
 AllStand p (s ∷ ss) (t ∷ ts) = Stands p s t × AllStand p ss ts
 
-stands : (p : Tree) (s : SlotFields) (t : Thread) → thread_of p s ≡ Some t → Stands p s t
+pub stands : (p : Tree) (s : SlotFields) (t : Thread) → thread_of p s ≡ Some t → Stands p s t
 stands p s t e = go (state_of p s.local) refl e
   where
     go : (o : Option State) → state_of p s.local ≡ o → option_map (λ x. record { state = x; events = s.events }) o ≡ Some t → Stands p s t
@@ -135,7 +135,3 @@ both_find p (s ∷ ss) (t ∷ ts) q h = subst (λ r. BothFind p (if same_path s.
     go : (b : Bool) → BothFind p (slot_at ss q) (thread_at ts q) → BothFind p (if b then Some s else slot_at ss q) (if b then Some t else thread_at ts q)
     go true k = h.0
     go false k = k
-
--- the root alone
-pub one_slot : (job : Job) (ss : List SlotFields) (s : SlotFields) → ss ≡ s ∷ [] → threads_from job.program ss ≡ Some (begin job) → s.local.steps ≡ length s.events → AreSlots job ss
-one_slot job ss s is reads counted = record { threads = begin job; reads = reads; reached = (starts job).reached; counted = subst (AllByRecursion IsCounted) (sym is) (counted, tt) }

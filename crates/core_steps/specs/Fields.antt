@@ -54,7 +54,7 @@ read_local l = record { path = l.path; prio = l.prio; reads = l.reads; children 
 
 -- the routine that a frame runs in
 abbrev pub routine_at : Tree → Root → Option Routine
-routine_at p root.Main = slice_get p.mains 0
+routine_at p (root.Main k) = slice_get p.mains k
 routine_at p (root.Procedure f) = slice_get p.procs f
 
 -- the block that a frame is in

@@ -1,6 +1,6 @@
 //! The threads of a job so far.
 
-ghost use Rattle.std.specs.Prelude.{◌≡◌, ◌↔◌, ◌<◌, ◌≤◌, ◌+◌, ◌++◌, ◌∷◌, [], IfOk, IfErr, IfSome, OnOk, OnErr, List, ℕ, Some, None, true, not, length, map};
+ghost use Rattle.std.specs.Prelude.{◌≡◌, ◌↔◌, ◌<◌, ◌≤◌, ◌+◌, ◌++◌, ◌∷◌, [], IfOk, IfErr, IfSome, OnOk, OnErr, List, ℕ, Some, None, true, not, length, map, slice_get};
 ghost use Rattle.std.specs.List.{All, HoldsAt, insert};
 ghost use Rattle.std.specs.Vec.{vec_len, vec_capacity};
 ghost use Rattle.std.specs.Option.{is_some, option_copied, option_map};
@@ -13,11 +13,11 @@ ghost use Rattle.std.specs.declared.alloc.Global.{Global as TheGlobal};
 ghost use Rattle.core_steps.specs.Fields.{read_local, read_mode};
 ghost use Rattle.core_steps.specs.Locals.{IsFed, IsLocal, MovesTo, ended_with, read_awaited};
 ghost use Rattle.core_steps.specs.Config.{begin, IsFinished};
-ghost use Rattle.core_steps.specs.Configs.{Advances, AreRecords, AreSlots, IsConfig, IsEnded, IsHanded, IsReady, IsTold, IsWait, JoinsAt, SlotsRise, StepsAt, Stops, all_end, entry_from, outcome_of, read_slot, records_from, slot_added, slot_at, slots_of, threads_of, with_slot};
+ghost use Rattle.core_steps.specs.Configs.{Advances, AreRecords, AreSlots, IsConfig, IsCounted, IsEnded, IsHanded, IsReady, IsTold, IsWait, JoinsAt, SlotsRise, StepsAt, Stops, all_end, entry_from, outcome_of, read_slot, records_from, slot_added, slot_at, slots_of, thread_of, threads_of, with_slot};
 ghost use Rattle.core_steps.specs.declared.config.Slot.{Slot as TheSlot};
 ghost use Rattle.core_steps.specs.Laws.{HasGraph, IsChecked};
 ghost use Rattle.core_steps.specs.Moves.{job_of};
-ghost use Rattle.core_steps.specs.Steps.{Job as TheJob};
+ghost use Rattle.core_steps.specs.Steps.{Job as TheJob, root_state};
 
 use crate::laws::job_is_checked;
 use crate::local::{Local, Moved, Next};
@@ -107,17 +107,15 @@ impl Model for Config {
 }
 
 impl Config {
-    /// The root alone.
+    /// The roots alone.
     pub fn start(alloc: Global, job: &Job) -> Result<Config, AllocError>
         ensures threads { IfOk result (λ c. threads_of (job_of job.now).program c ≡ Some (begin (job_of job.now))) }
         ensures config { IfOk result (λ c. IsConfig (job_of job.now) c) }
     {
-        let local = Local::root(alloc, job)?;
         let mut threads = Vec::new(alloc);
-        threads.push(Slot {
-            local,
-            events: Vec::new(alloc),
-        })?;
+        for k in 0..job.roots() {
+            threads.push(root_slot(alloc, job, k)?)?;
+        }
         Ok(Config { threads })
     }
 
@@ -237,6 +235,19 @@ impl Config {
             None => Err(CoreStop::NoThread),
         }
     }
+}
+
+// The k-th root, which has made no step.
+fn root_slot(alloc: Global, job: &Job, k: u32) -> Result<Slot, AllocError>
+    requires { k < length (job_of job.now).program.mains }
+    ensures root { IfOk result (λ s. option_map (λ m. record { state = root_state m k; events = [] }) (slice_get (job_of job.now).program.mains k) ≡ thread_of (job_of job.now).program (read_slot s)) }
+    ensures counted { IfOk result (λ s. IsCounted (read_slot s)) }
+{
+    let local = Local::root_at(alloc, job, k)?;
+    Ok(Slot {
+        local,
+        events: Vec::new(alloc),
+    })
 }
 
 // Whether each of these has ended.

@@ -16,7 +16,8 @@ use std::alloc::{AllocError, Global};
 /// Which body a frame runs in.
 #[derive(Clone, Copy, Debug)]
 pub(crate) enum Root {
-    Main,
+    /// That of the main of this number.
+    Main(u32),
     /// That of the procedure of this number.
     Procedure(u32),
 }
@@ -32,12 +33,22 @@ pub(crate) struct Frame {
     pub(crate) prios: Vec<u32>,
 }
 
+// The main of this number.
+pub(crate) fn main_at(program: &Program, k: u32) -> Option<&Proc>
+    ensures { option_map read_proc (option_copied result) ≡ slice_get (read_program program.now).mains k }
+{
+    if k > 0 {
+        return None;
+    }
+    Some(&program.main)
+}
+
 // The routine.
 fn routine(program: &Program, root: Root) -> Option<&Proc>
     ensures { option_map read_proc (option_copied result) ≡ routine_at (read_program program.now) root }
 {
     match root {
-        Root::Main => Some(&program.main),
+        Root::Main(k) => main_at(program, k),
         Root::Procedure(f) => {
             let procs = program.procs.as_slice();
             if f as usize >= procs.len() {

@@ -1,5 +1,5 @@
 -- The serial run: the last of the threads that have not ended goes on, its step keeps the list, and the end or the limit tells the meaning.
-use Rattle.std.proofs.Common.{◌≡◌, ◌≢◌, ℕ, ◌+◌, ◌^◌, ◌<◌, ◌≤◌, List, [], ◌∷◌, ◌++◌, Option, Some, None, length, ◌⊎◌, inl, inr, refl, sym, ◌∙◌, ap, subst, arith, length-append}
+use Rattle.std.proofs.Common.{◌≡◌, ◌≢◌, ℕ, zero, suc, ◌+◌, ◌-◌, ◌^◌, ◌<◌, ◌≤◌, List, [], ◌∷◌, ◌++◌, Option, Some, None, length, ◌⊎◌, inl, inr, refl, sym, ◌∙◌, ap, subst, arith, length-append, append_assoc}
 use Rattle.std.specs.Prelude.{Result, Ok, Err, OnOk}
 use Rattle.std.specs.Option.{option_and_then}
 use Rattle.std.specs.List.{AllByRecursion}
@@ -30,7 +30,7 @@ use Rattle.core_steps.proofs.Threads.{same_or_not, found_first, found_behind, fo
 use Rattle.core_steps.proofs.Closed.{Closed, Choice, choice, given_ended, events_moved, events_others, in_stays}
 use Rattle.core_steps.proofs.Starts.{reached_closed, followed_append}
 use Rattle.serial_meaning.specs.declared.serial.Active.{Active}
-use Rattle.serial_meaning.specs.Serial.{Falls, Has, IsActive, IsStack, Serial, MayGo, GoesOnAt, MaySpawn, left_of}
+use Rattle.serial_meaning.specs.Serial.{Falls, Has, IsActive, IsStack, Serial, MayGo, GoesOnAt, MaySpawn, left_of, roots_below}
 use Rattle.serial_meaning.proofs.Spawning.{spawn_has_room}
 
 -- lists of threads that have not ended
@@ -270,26 +270,44 @@ may_spawn job n ss ys xs a e new c is adv spawn =
     let count : q.0.thread.state.children ≡ a.children = (named (k.ran a.path q.0.thread q.0.found)).children ∙ (sym (ap (λ o. spawns (events_in o)) q.0.found) ∙ i.counted) in
     (omega (arith, room.0, ap length path), omega (arith, room.1, count))
 
+-- the roots of the start
+roots_each : (P : Active → Type 0) (n : ℕ) → ((k : ℕ) → k < n → P (record { path = k ∷ []; children = 0 })) → AllByRecursion P (roots_below n)
+roots_each P zero f = tt
+roots_each P (suc n) f = (f n (omega arith), roots_each P n (λ k l. f k (omega (arith, l))))
+
+roots_fall : (n : ℕ) → Falls (roots_below n)
+roots_fall zero = tt
+roots_fall (suc n) = (roots_each (λ y. Before y.path (n ∷ [])) n (λ k l. inl (inl l)), roots_fall n)
+
+roots_have : (n k : ℕ) → k < n → Has (roots_below n) (k ∷ [])
+roots_have zero k l = absurd (omega (arith, l))
+roots_have (suc n) k l = elim (cases_lt k n) [ inl b ↦ inr (roots_have n k b) | inr g ↦ (let z : n ≡ k = omega (arith, l, g) in inl (ap (λ m. m ∷ []) z)) ]
+
+-- one more of them
+pub one_root : (n : ℕ) (xs all : List Active) → 0 < n → xs ++ roots_below n ≡ all → (xs ++ record { path = (n - 1) ∷ []; children = 0 } ∷ []) ++ roots_below (n - 1) ≡ all
+one_root zero xs all l e = absurd (omega (arith, l))
+one_root (suc n) xs all l e =
+    let z : suc n - 1 ≡ n = omega arith in
+    ap (λ k. (xs ++ record { path = k ∷ []; children = 0 } ∷ []) ++ roots_below k) z ∙ (append_assoc xs (record { path = n ∷ []; children = 0 } ∷ []) (roots_below n) ∙ e)
+
 -- the start
-pub serial_start : (job : Job) (ss : List SlotFields) (xs : List Active) → length job.program.mains ≡ 1 → threads_from job.program ss ≡ Some (begin job) → xs ≡ record { path = 0 ∷ []; children = 0 } ∷ [] → Serial job 0 ss xs
-serial_start job ss xs one reads is =
+pub serial_start : (job : Job) (ss : List SlotFields) (xs : List Active) → threads_from job.program ss ≡ Some (begin job) → xs ≡ roots_below (length job.program.mains) → Serial job 0 ss xs
+serial_start job ss xs reads is =
     let laws : CoreLaws job = core_laws job in
-    let quiet : events_of (begin job) (0 ∷ []) ≡ [] = laws.starts.empty (0 ∷ []) in
     record {
       threads = begin job;
       reads = reads;
       reached = ([], refl, refl);
       stack = subst (IsStack (begin job)) (sym is) (record {
-        each = (
-          record {
-            there = (laws.starts.roots (0 ∷ [])).1 (0, omega (arith, one), refl);
-            live = λ h. let x = (laws.counts.last (begin job) (0 ∷ []) laws.starts.reached).0 h in push_not_nil x.0 End (sym x.1 ∙ quiet);
-            counted = ap spawns quiet;
-          },
-          tt,
-        );
-        all = λ p i h. let x = (laws.starts.roots p).0 i in let z : 0 ≡ x.0 = omega (arith, x.1, one) in inl (ap (λ k. k ∷ []) z ∙ sym x.2);
-        falls = (tt, tt);
+        each = roots_each (IsActive (begin job)) (length job.program.mains) (λ k l.
+            let quiet : events_of (begin job) (k ∷ []) ≡ [] = laws.starts.empty (k ∷ []) in
+            record {
+              there = (laws.starts.roots (k ∷ [])).1 (k, l, refl);
+              live = λ h. let x = (laws.counts.last (begin job) (k ∷ []) laws.starts.reached).0 h in push_not_nil x.0 End (sym x.1 ∙ quiet);
+              counted = ap spawns quiet;
+            });
+        all = λ p i h. let x = (laws.starts.roots p).0 i in subst (Has (roots_below (length job.program.mains))) (sym x.2) (roots_have (length job.program.mains) x.0 x.1);
+        falls = roots_fall (length job.program.mains);
       });
     }
 

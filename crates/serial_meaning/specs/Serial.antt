@@ -1,5 +1,5 @@
 -- The serial run of a job: the threads that have not ended, that which goes on first the last.
-use Rattle.std.specs.Prelude.{◌≡◌, ◌⊎◌, ℕ, ◌+◌, ◌<◌, List, [], ◌∷◌, Some, None, length}
+use Rattle.std.specs.Prelude.{◌≡◌, ◌⊎◌, ℕ, zero, suc, ◌+◌, ◌<◌, List, [], ◌∷◌, Some, None, length}
 use Rattle.std.specs.List.{AllByRecursion}
 use Rattle.priml_syntax.specs.declared.event.Event.{Event}
 use Rattle.priml_syntax.specs.declared.event.Event.TheVariants.{Spawn, End}
@@ -58,3 +58,8 @@ abbrev pub left_of : Active → Event → List Active
 left_of x End = []
 left_of x Spawn = record { path = x.path; children = x.children + 1 } ∷ record { path = child_path x.path x.children; children = 0 } ∷ []
 left_of x e = x ∷ []
+
+-- the first n roots, the last of them first
+abbrev pub roots_below : ℕ → List Active
+roots_below zero = []
+roots_below (suc n) = record { path = n ∷ []; children = 0 } ∷ roots_below n

@@ -10,7 +10,7 @@ ghost use Rattle.core_steps.specs.Configs.{Advances, IsConfig, slots_of};
 ghost use Rattle.core_steps.specs.Laws.{HasGraph};
 ghost use Rattle.core_steps.specs.Meaning.{meaning as the_meaning, Finished, Over};
 ghost use Rattle.core_steps.specs.Moves.{job_of};
-ghost use Rattle.serial_meaning.specs.Serial.{Serial, GoesOnAt, MaySpawn, left_of};
+ghost use Rattle.serial_meaning.specs.Serial.{Serial, GoesOnAt, MaySpawn, left_of, roots_below};
 
 use core_steps::{Config, CoreStop, job_is_checked};
 use priml_syntax::{Event, Path, PathStop, Records};
@@ -55,7 +55,7 @@ pub fn meaning(alloc: Global, job: &Job, limit: u64) -> Result<Records, MeaningS
 {
     job_is_checked(job);
     let mut config = Config::start(alloc, job)?;
-    let mut active = first(alloc)?;
+    let mut active = roots(alloc, job)?;
     run(&mut config, &mut active, alloc, job, limit)?;
     match config.records(alloc)? {
         Some(records) => Ok(records),
@@ -63,13 +63,17 @@ pub fn meaning(alloc: Global, job: &Job, limit: u64) -> Result<Records, MeaningS
     }
 }
 
-// The root.
-fn first(alloc: Global) -> Result<Vec<Active>, AllocError>
-    ensures { IfOk result (λ v. v.items ≡ record { path = 0 ∷ []; children = 0 } ∷ []) }
+// The roots, the first of them the last of the list.
+fn roots(alloc: Global, job: &Job) -> Result<Vec<Active>, AllocError>
+    ensures { IfOk result (λ v. v.items ≡ roots_below (length (job_of job.now).program.mains)) }
 {
-    let path = Path::root(alloc)?;
     let mut active = Vec::new(alloc);
-    active.push(Active { path, children: 0 })?;
+    let mut left = job.roots();
+    'roots: while left > 0 {
+        left -= 1;
+        let path = Path::root_at(alloc, left)?;
+        active.push(Active { path, children: 0 })?;
+    }
     Ok(active)
 }
 

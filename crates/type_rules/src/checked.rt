@@ -1,4 +1,4 @@
-ghost use Rattle.std.specs.Prelude.{◌≡◌, map, MatchResult, IfOk, IfErr};
+ghost use Rattle.std.specs.Prelude.{◌≡◌, length, map, MatchResult, IfOk, IfErr};
 ghost use Rattle.priml_syntax.specs.Read.{read_pair, read_program};
 ghost use Rattle.priml_syntax.specs.Tree.{Declared, pairs_of};
 ghost use Rattle.priml_syntax.specs.Scoped.{IsScoped};
@@ -49,6 +49,13 @@ impl Checked {
         ensures scoped { IsScoped (read_program self.now) }
     {
         &self.program
+    }
+
+    /// The number of mains.
+    pub fn roots(&self) -> u32
+        ensures { result ≡ length (read_program self.now).mains }
+    {
+        1
     }
 
     /// The order that the program's names and pairs make.

@@ -1,4 +1,4 @@
-ghost use Rattle.std.specs.Prelude.{◌≡◌};
+ghost use Rattle.std.specs.Prelude.{◌≡◌, length};
 ghost use Rattle.priml_syntax.specs.Read.{read_program};
 ghost use Rattle.type_rules.specs.Stops.{IsOrderOf};
 ghost use Rattle.type_rules.specs.Jobs.{WithInputs};
@@ -42,6 +42,13 @@ impl Job {
         ensures { result.now ≡ self.now.program }
     {
         &self.checked
+    }
+
+    /// The number of mains, each of which begins one root.
+    pub fn roots(&self) -> u32
+        ensures { result ≡ length (read_program self.now.program).mains }
+    {
+        self.checked.roots()
     }
 
     /// The order that the program's names and pairs make.

@@ -1,4 +1,4 @@
-use Rattle.std.proofs.Common.{length, map, refl, subst}
+use Rattle.std.proofs.Common.{length, map, subst}
 use Rattle.std.specs.Option.{option_map}
 use Rattle.priml_syntax.specs.Read.{read_record}
 use Rattle.core_steps.specs.Configs.{AreRecords, slots_of}
@@ -9,7 +9,7 @@ use Rattle.serial_meaning.proofs.Stack.{finished_below, none_at_end, serial_star
 use Rattle.serial_meaning.proofs.serial.meaning.Goals as goal
 
 pub run-requires-clause-serial : goal.run-requires-clause-serial
-run-requires-clause-serial c = serial_start (job_of c.args.job.now) (slots_of c.in_ok-config.config) c.in_ok-active.active.items refl c.in_ok-config.ensures.threads c.in_ok-active.ensures
+run-requires-clause-serial c = serial_start (job_of c.args.job.now) (slots_of c.in_ok-config.config) c.in_ok-active.active.items c.in_ok-config.ensures.threads c.in_ok-active.ensures
 
 pub unreachable-requires : goal.unreachable-requires
 unreachable-requires c =

@@ -1,0 +1,150 @@
+"""The words of `lens` and what each command does."""
+import argparse
+import json
+import os
+import sys
+
+from . import answers, findings, report
+from .program import Program, Refusal, Trouble, read_file
+from .texts import plain
+
+MOST_STEPS = "100000"
+FAILED, CLOSED = 1, 9
+EPILOG = """The program is that of --program, or of the variable PRIML, or ./priml beside lens. FILE may be - for standard input.
+Exit status: that of the program (docs/FORMATS.md); 1 where lens cannot read a file, write one or run the program; 2 for wrong
+words; 9 where its output is closed. NO_COLOR switches colours off."""
+
+
+def parser():
+    """The grammar of the words."""
+    shared = argparse.ArgumentParser(add_help=False)
+    shared.add_argument("--program", metavar="PATH", default=argparse.SUPPRESS, help="the program to ask")
+    limit = argparse.ArgumentParser(add_help=False)
+    limit.add_argument("-l", dest="limit", metavar="STEPS", default=MOST_STEPS, help="steps that all threads together may make (%(default)s)")
+    cores = argparse.ArgumentParser(add_help=False)
+    cores.add_argument("-p", dest="cores", metavar="CORES", required=True, help="cores of the schedule")
+    out = argparse.ArgumentParser(add_help=False)
+    out.add_argument("-o", dest="out", metavar="OUT", help="the file to write, instead of standard output")
+
+    top = argparse.ArgumentParser(prog="lens", parents=[shared], description="Shows what priml says.", epilog=EPILOG)
+    kinds = top.add_subparsers(dest="command", metavar="COMMAND", required=True)
+
+    def add(name, work, parents, told):
+        one = kinds.add_parser(name, parents=[shared] + parents, help=told, description=told)
+        one.set_defaults(work=work)
+        return one
+
+    one = add("check", check, [], "explains the fault of each file, at its place")
+    one.add_argument("files", nargs="+", metavar="FILE")
+    one.add_argument("--json", action="store_true", help="a list of findings for tools")
+    for name, told in (("report", "the responses and bounds of the canonical plan as a table; -p 1,2,4 compares"),
+                       ("judge", "the same for the schedule in the file, or its flaw")):
+        one = add(name, tables, [limit, cores], told)
+        one.add_argument("file", metavar="FILE")
+        form = one.add_mutually_exclusive_group()
+        form.add_argument("--csv", dest="form", action="store_const", const=report.as_csv)
+        form.add_argument("--json", dest="form", action="store_const", const=report.as_json)
+    return top
+
+
+class Session:
+    """The words of one call, the program, and the ends of the terminal."""
+
+    def __init__(self, words, top):
+        self.words = words
+        self.program = Program(getattr(words, "program", None), top)
+
+    def show(self, finding, text, stream):
+        """Writes a finding for a person, with colour where the stream is a terminal that wants it."""
+        colour = stream.isatty() and os.environ.get("TERM") != "dumb" and not os.environ.get("NO_COLOR")
+        stream.write(findings.as_text(finding, text, findings.Ink(colour)))
+
+    def read(self, name):
+        return read_file(name, sys.stdin.buffer)
+
+    def write(self, text):
+        """Writes to the file of -o, or to standard output."""
+        out = getattr(self.words, "out", None)
+        if out is None or out == "-":
+            sys.stdout.write(text)
+            return
+        try:
+            with open(out, "w", encoding="utf-8", newline="\n") as file:
+                file.write(text)
+        except (OSError, ValueError) as fault:
+            raise Trouble("cannot write %s: %s" % (out, getattr(fault, "strerror", None) or fault))
+
+
+def check(session):
+    """Asks `check` of each file; the status is the first that is not 0."""
+    status, told = 0, []
+    for name in session.words.files:
+        try:
+            text = session.read(name)
+        except Trouble as trouble:
+            complain(trouble)
+            status = status or FAILED
+            continue
+        answer = session.program.answer(["check"], text.data)
+        status = status or answer.status
+        if answer.status == 0:
+            if not session.words.json:
+                session.write("%s: ok\n" % plain(name))
+            continue
+        finding = findings.explain(answer, text)
+        told.append(findings.as_data(finding))
+        if not session.words.json:
+            session.show(finding, text, sys.stdout)
+    if session.words.json:
+        session.write(json.dumps(told, indent=1, ensure_ascii=True) + "\n")
+    return status
+
+
+def tables(session):
+    """Asks `report` or `judge` for each number of cores."""
+    words = session.words
+    text = session.read(words.file)
+    reports = [answers.read_report(session.program.ask([words.command, cores, words.limit], text))
+               for cores in words.cores.split(",")]
+    if words.form:
+        session.write(words.form(reports))
+    else:
+        session.write(report.table(reports[0]) if len(reports) == 1 else report.side_by_side(reports))
+    return 0
+
+
+def complain(trouble):
+    sys.stderr.write("lens: %s\n" % plain(str(trouble)))
+
+
+def main(top):
+    """Does one command and answers the exit status."""
+    for end in (sys.stdout, sys.stderr):
+        end.reconfigure(encoding="utf-8", errors="replace")
+    session = Session(parser().parse_args(), top)
+    try:
+        status = work_of(session)
+        sys.stdout.flush()
+        return status
+    except BrokenPipeError:
+        os.dup2(os.open(os.devnull, os.O_WRONLY), sys.stdout.fileno())
+        complain("the output is closed")
+        return CLOSED
+    except OSError as fault:
+        os.dup2(os.open(os.devnull, os.O_WRONLY), sys.stdout.fileno())
+        complain("cannot write the output: %s" % (fault.strerror or fault))
+        return CLOSED
+    except KeyboardInterrupt:
+        return 130
+
+
+def work_of(session):
+    try:
+        return session.words.work(session)
+    except Refusal as refusal:
+        finding = findings.explain(refusal.answer, refusal.text)
+        session.show(finding, refusal.text, sys.stderr)
+        return finding.status
+    except Trouble as trouble:
+        complain(trouble)
+        return FAILED

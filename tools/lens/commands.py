@@ -4,7 +4,7 @@ import json
 import os
 import sys
 
-from . import answers, findings, report
+from . import answers, drawing, findings, report, traces, view
 from .program import Program, Refusal, Trouble, read_file
 from .texts import plain
 
@@ -44,6 +44,12 @@ def parser():
         form = one.add_mutually_exclusive_group()
         form.add_argument("--csv", dest="form", action="store_const", const=report.as_csv)
         form.add_argument("--json", dest="form", action="store_const", const=report.as_json)
+    for name, work, parents, told in (
+            ("dot", dot, [limit, out], "the cost graph for Graphviz"),
+            ("svg", svg, [limit, cores, out], "the plan as a picture: cores down, steps across"),
+            ("view", page, [limit, cores, out], "one page with plan, threads and bounds, and cost graph"),
+            ("trace", trace, [limit, cores, out], "the plan in the Chrome trace event format")):
+        add(name, work, parents, told).add_argument("file", metavar="FILE")
     return top
 
 
@@ -110,6 +116,44 @@ def tables(session):
         session.write(words.form(reports))
     else:
         session.write(report.table(reports[0]) if len(reports) == 1 else report.side_by_side(reports))
+    return 0
+
+
+def run_of(session):
+    """The file, the graph of its run, and the plan on these cores."""
+    words = session.words
+    text = session.read(words.file)
+    plan = session.program.ask(["plan", words.cores, words.limit], text)
+    return text, answers.read_graph(session.program.ask(["graph", words.limit], text)), answers.read_plan(plan)
+
+
+def title(text):
+    return plain(os.path.basename(text.name))
+
+
+def dot(session):
+    text = session.read(session.words.file)
+    graph = answers.read_graph(session.program.ask(["graph", session.words.limit], text))
+    session.write(drawing.dot(graph, title(text)))
+    return 0
+
+
+def svg(session):
+    text, graph, steps = run_of(session)
+    session.write(drawing.svg(graph, steps, int(session.words.cores), title(text)))
+    return 0
+
+
+def trace(session):
+    text, graph, steps = run_of(session)
+    session.write(traces.trace(graph, steps, int(session.words.cores), title(text)))
+    return 0
+
+
+def page(session):
+    text, graph, steps = run_of(session)
+    told = session.program.ask(["report", session.words.cores, session.words.limit], text)
+    session.write(view.page(answers.read_report(told), graph, steps, title(text)))
     return 0
 
 

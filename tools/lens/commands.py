@@ -4,7 +4,7 @@ import json
 import os
 import sys
 
-from . import answers, drawing, findings, report, traces, view
+from . import answers, drawing, findings, report, server, traces, view
 from .program import Program, Refusal, Trouble, read_file
 from .texts import plain
 
@@ -50,6 +50,7 @@ def parser():
             ("view", page, [limit, cores, out], "one page with plan, threads and bounds, and cost graph"),
             ("trace", trace, [limit, cores, out], "the plan in the Chrome trace event format")):
         add(name, work, parents, told).add_argument("file", metavar="FILE")
+    add("lsp", lsp, [], "a language server on standard streams")
     return top
 
 
@@ -155,6 +156,10 @@ def page(session):
     told = session.program.ask(["report", session.words.cores, session.words.limit], text)
     session.write(view.page(answers.read_report(told), graph, steps, title(text)))
     return 0
+
+
+def lsp(session):
+    return server.serve(session.program, sys.stdin.fileno(), sys.stdout.buffer)
 
 
 def complain(trouble):

@@ -1,5 +1,4 @@
 """lens check: the place of a fault, its line, and every kind of refusal."""
-import glob
 import json
 import os
 import re
@@ -195,17 +194,3 @@ class Calls(Case):
         findings.as_text(finding, text, findings.Ink(True))
         self.assertLess(time.process_time() - began[0], 0.5)
         self.assertIn("large:838001:5: error: unexpected", self.lens("check", "large", program=program)[1])
-
-
-class Examples(Case):
-    def test_wrong_examples_are_inversions(self):
-        self.need("check")
-        for path in glob.glob(os.path.join(TOP, "examples", "*-bad.priml")):
-            with self.subTest(path):
-                status, out, _ = self.lens("check", path)
-                self.assertEqual(status, 4)
-                self.assertIn(": error: inversion\n", out)
-
-
-if __name__ == "__main__":
-    unittest.main()

@@ -1,8 +1,7 @@
 """lens report and judge: the table, CSV, JSON, and several numbers of cores."""
 import json
-import os
 
-from case import TOP, Case
+from case import Case
 
 REPORT = """thread 0 ui 7 value 15
 thread 0.0 bg 3 value 4096
@@ -98,14 +97,3 @@ No core is idle while a vertex is ready, and 0.0:0 is ready here. Add 0.0:0 to t
 """))
         for cores in ("0", "1025", "x", ""):
             self.assertEqual(self.lens("report", "a", "-p", cores)[0], 2)
-
-
-class Examples(Case):
-    def test_each_report_is_the_program_s(self):
-        self.need("report")
-        folder = os.path.join(TOP, "examples")
-        for name in sorted(os.listdir(folder)):
-            if name.endswith(".report"):
-                with self.subTest(name), open(os.path.join(folder, name), encoding="utf-8") as told, \
-                        open(os.path.join(folder, name[:-7] + ".priml"), "rb") as source:
-                    self.assertEqual(self.asked("report", "2", "1000", given=source.read()), told.read())

@@ -67,7 +67,7 @@ class Session:
         stream.write(findings.as_text(finding, text, findings.Ink(colour)))
 
     def read(self, name):
-        return read_file(name, sys.stdin.buffer)
+        return read_file(name, sys.stdin and sys.stdin.buffer)
 
     def write(self, text):
         """Writes to the file of -o, or to standard output."""
@@ -163,14 +163,20 @@ def lsp(session):
 
 
 def complain(trouble):
-    sys.stderr.write("lens: %s\n" % plain(str(trouble)))
+    """One line on standard error, if there is one."""
+    if sys.stderr:
+        sys.stderr.write("lens: %s\n" % plain(str(trouble)))
 
 
 def main(top):
     """Does one command and answers the exit status."""
     for end in (sys.stdout, sys.stderr):
-        end.reconfigure(encoding="utf-8", errors="replace")
+        if end:
+            end.reconfigure(encoding="utf-8", errors="replace")
     session = Session(parser().parse_args(), top)
+    if not sys.stdout:
+        complain("the output is closed")
+        return CLOSED
     try:
         status = work_of(session)
         sys.stdout.flush()

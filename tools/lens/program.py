@@ -59,6 +59,8 @@ def reason(fault):
 def read_file(name, standard_input):
     """The bytes of a file, `-` for standard input; of one that is too long as many as show the program that it is."""
     try:
+        if name == "-" and standard_input is None:
+            raise Trouble("cannot read -: standard input is closed")
         if name == "-":
             return Text("-", standard_input.read(MOST_BYTES + 1))
         with open(name, "rb") as file:

@@ -25,7 +25,14 @@ class Document:
         self.text = text
         self.data = text.encode("utf-8", "surrogatepass")
         self.starts = [0] + [found.end() for found in LINE_END.finditer(text)]
-        self.outline = Outline(text)
+        self.made = None
+
+    @property
+    def outline(self):
+        """The outline of the text, made when it is asked for."""
+        if self.made is None:
+            self.made = Outline(self.text)
+        return self.made
 
     def offset(self, position):
         line = min(max(0, position["line"]), len(self.starts) - 1)

@@ -53,13 +53,19 @@ class Text:
 
     def start_of_line(self, number):
         """The offset at which a line begins, lines counted from 1; past the last one the end."""
-        offset = 0
-        for _ in range(number - 1):
-            found = self.data.find(b"\n", offset)
-            if found < 0:
+        low, high, before = 0, len(self.data), 0  # `before` line feeds stand before `low`
+        while high - low > 4096:
+            middle = (low + high) // 2
+            more = self.data.count(b"\n", low, middle)
+            if before + more >= number - 1:
+                high = middle
+            else:
+                low, before = middle, before + more
+        for _ in range(number - 1 - before):
+            low = self.data.find(b"\n", low) + 1
+            if low == 0:
                 return len(self.data)
-            offset = found + 1
-        return offset
+        return low
 
     def token_length(self, offset):
         """The bytes of the token at a place, at least 1."""

@@ -2,6 +2,7 @@
 import os
 import shlex
 import subprocess
+import sys
 import tempfile
 import unittest
 
@@ -42,7 +43,7 @@ class Case(unittest.TestCase):
         if program or PROGRAM:
             env["PRIML"] = program or PROGRAM
         env.update(settings)
-        done = subprocess.run([LENS] + list(words), input=given, stdout=subprocess.PIPE, stderr=subprocess.PIPE,
+        done = subprocess.run([sys.executable, LENS] + list(words), input=given, stdout=subprocess.PIPE, stderr=subprocess.PIPE,
                               cwd=self.folder.name, env=env, timeout=50)
         return done.returncode, done.stdout.decode(), done.stderr.decode()
 

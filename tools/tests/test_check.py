@@ -167,13 +167,32 @@ class Calls(Case):
 
     def test_a_closed_pipe(self):
         self.file("a.priml", "")
-        call = subprocess.Popen("%s check %s --program %s; echo $? >&2" % (LENS, "a.priml " * 5000, self.fake(check=(0, "ok\n"))),
+        call = subprocess.Popen("sleep 0.3; %s check %s --program %s; echo $? >&2" % (LENS, "a.priml " * 3, self.fake(check=(0, "ok\n"))),
                                 shell=True, cwd=self.folder.name, stdout=subprocess.PIPE, stderr=subprocess.PIPE)
         call.stdout.close()
         told = call.stderr.read().decode()
         call.stderr.close()
         call.wait()
         self.assertEqual(told, "lens: the output is closed\n9\n")
+
+    def test_ends_that_are_closed_or_full(self):
+        self.file("a.priml", "")
+        program = self.fake(check=(0, "ok\n"))
+        for ends, told in ((">&-", "lens: the output is closed\n9\n"), ("> /dev/full", "lens: cannot write the output: No space left on device\n9\n"),
+                           ("2>&- >&-", "9\n"), ("- <&-", "lens: cannot read -: standard input is closed\n1\n")):
+            if "full" in ends and not os.path.exists("/dev/full"):
+                continue
+            done = subprocess.run("exec 3>&2; %s check --program %s a.priml %s; echo $? >&3" % (LENS, program, ends), shell=True,
+                                  cwd=self.folder.name, stdout=subprocess.PIPE, stderr=subprocess.PIPE)
+            with self.subTest(ends):
+                self.assertEqual(done.stderr.decode(), told)
+
+    def test_starts_of_lines(self):
+        for data in (b"", b"\n", b"a\nb", b"ab\n" * 5000 + b"c", b"x" * 9000 + b"\n" * 9000):
+            text, starts = Text("f", data), [0] + [at + 1 for at, one in enumerate(data) if one == 10]
+            for number in [1, 2, 3, len(starts) // 2 + 1, len(starts)]:
+                self.assertEqual(text.start_of_line(number), starts[number - 1] if number <= len(starts) else len(data))
+            self.assertEqual(text.start_of_line(len(starts) + 1), len(data))
 
     def test_files_of_the_program(self):
         self.need("check")

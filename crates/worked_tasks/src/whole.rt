@@ -1,0 +1,171 @@
+//! A whole job by tasks, beside its serial meaning.
+ghost use Rattle.std.specs.Prelude.{OnOk, map};
+ghost use Rattle.core_steps.specs.Moves.{job_of as the_job};
+ghost use Rattle.priml_syntax.specs.Read.{read_record};
+ghost use Rattle.task_state.specs.Tasks.{read_task};
+ghost use Rattle.worked_tasks.specs.Idle.{AreMeant, IsIdle};
+
+use crate::jobs::job_of;
+use crate::turns::{Turn, name_of, take_turn};
+use priml_syntax::{Event, FaultKind, Outcome, Path, Record, Records, Value};
+use serial_meaning::meaning;
+use std::alloc::Global;
+use std::cmp::Ordering;
+use std::test::Fail;
+use task_state::Task;
+use trace_book::{Segment, ThreadLog};
+use type_rules::Job;
+
+/// Each kind of step: a fault, a joined fault, calls, blocks, branches, inputs and outputs.
+const EACH_STEP: &[u8] = b"priority bg; priority ui; order bg < ui;
+proc f[p](n : int) at p : int { u <- output n; ret (n + 1) }
+main at bg : int {
+  a <- spawn[ui] { x <- ret 2; ret (x / 0) };
+  b <- spawn[ui] { i <- input; j <- input; case i inl u { ret 0 } inr k { r <- call f[ui](k); ret r } };
+  x <- call f[bg](3);
+  y <- do { ret (x, true) };
+  z <- sync b;
+  if snd(y) { w <- sync a; ret w } else { ret z }
+}";
+
+/// Appends the segment to the log of its thread.
+fn append(log: &mut ThreadLog, segment: Segment) -> Result<(), Fail> {
+    if segment.path.compare(log.path()) != Ordering::Equal {
+        return Err(Fail::new("another thread"));
+    }
+    match log.append(segment) {
+        Ok(()) => Ok(()),
+        Err(_) => Err(Fail::new("not appended")),
+    }
+}
+
+/// Feeds the outcome of the awaited thread, where the task awaits one.
+fn feed(alloc: Global, job: &Job, records: &Records, task: &mut Task) -> Result<(), Fail>
+    requires task { IsIdle (the_job job.now) (read_task task.old) }
+    requires meant { AreMeant (the_job job.now) (map read_record records.now) }
+    ensures { OnOk result (IsIdle (the_job job.now) (read_task task.new)) }
+{
+    let Some(path) = task.awaited() else {
+        return Ok(());
+    };
+    let Some(record) = records.get(path) else {
+        return Err(Fail::new("no record"));
+    };
+    let outcome = record.outcome.copy(alloc)?;
+    task.feed(outcome);
+    Ok(())
+}
+
+/// The thread that the event joined.
+fn joined(event: &Event) -> Option<&Path> {
+    match event {
+        Event::Join(path) => Some(path),
+        _ => None,
+    }
+}
+
+/// The number that the event wrote.
+fn written(event: &Event) -> Option<i64> {
+    match event {
+        Event::Wrote(n) => Some(*n),
+        _ => None,
+    }
+}
+
+fn are_equal(a: &Event, b: &Event) -> bool {
+    let same_thread = match (joined(a), joined(b)) {
+        (Some(p), Some(q)) => p.compare(q) == Ordering::Equal,
+        (p, q) => p.is_none() && q.is_none(),
+    };
+    same_thread && written(a) == written(b) && name_of(a) == name_of(b)
+}
+
+/// The number with which a thread ended.
+fn number(outcome: &Outcome) -> Option<i64> {
+    match outcome {
+        Outcome::Value(Value::Int(n)) => Some(*n),
+        _ => None,
+    }
+}
+
+/// The fault with which a thread ended.
+fn fault(outcome: &Outcome) -> Option<FaultKind> {
+    match outcome {
+        Outcome::Fault(kind) => Some(*kind),
+        Outcome::Value(_) => None,
+    }
+}
+
+/// Whether the log is that of the record of a thread that ended with a number or a fault.
+fn is_record(log: &ThreadLog, record: &Record) -> bool {
+    let events = record.events.as_slice();
+    if log.priority() != record.prio || log.events().len() != events.len() {
+        return false;
+    }
+    for (a, b) in log.events().iter().zip(events) {
+        if !are_equal(a, b) {
+            return false;
+        }
+    }
+    match log.outcome() {
+        Some(outcome) => {
+            number(outcome) == number(&record.outcome) && fault(outcome) == fault(&record.outcome)
+        }
+        None => false,
+    }
+}
+
+/// Runs the task and its descendants to their ends, a thread before its parent goes on, and compares each log with the record
+/// of its thread. The number of threads, of which each stands at most `depth` below the one before.
+fn run_whole(
+    alloc: Global,
+    job: &Job,
+    records: &Records,
+    task: Task,
+    quantum: u32,
+    depth: u32,
+) -> Result<usize, Fail>
+    requires task { IsIdle (the_job job.now) (read_task task) }
+    requires meant { AreMeant (the_job job.now) (map read_record records.now) }
+{
+    if depth == 0 {
+        return Err(Fail::new("too deep"));
+    }
+    let mut task = task;
+    let mut log = ThreadLog::new(alloc, task.path().copy(alloc)?, task.priority());
+    let mut threads: usize = 1;
+    for _ in 0..64 {
+        if task.ended() {
+            return match records.get(log.path()) {
+                Some(record) if is_record(&log, record) => Ok(threads),
+                _ => Err(Fail::new("another record")),
+            };
+        }
+        feed(alloc, job, records, &mut task)?;
+        let Turn { child, segment, .. } = take_turn(alloc, job, &mut task, quantum)?;
+        if let Some(segment) = segment {
+            append(&mut log, segment)?;
+        }
+        if let Some(child) = child {
+            let more = run_whole(alloc, job, records, child, quantum, depth - 1)?;
+            threads = threads.saturating_add(more);
+        }
+    }
+    Err(Fail::new("no end"))
+}
+
+#[test]
+fn each_quantum(rt: HostRuntime) -> Result<(), Fail> {
+    let alloc = rt.alloc();
+    let job = job_of(alloc, EACH_STEP, b"0.1: 9\n")?;
+    let Ok(records) = meaning(alloc, &job, 100) else {
+        return Err(Fail::new("no meaning"));
+    };
+    assert_eq!(rt; records.work(), 23);
+    for quantum in 1..6 {
+        let root = Task::root(alloc, &job)?;
+        let threads = run_whole(alloc, &job, &records, root, quantum, 3)?;
+        assert_eq!(rt; threads, records.list().len());
+    }
+    Ok(())
+}

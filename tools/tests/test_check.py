@@ -1,6 +1,7 @@
 """lens check: the place of a fault, its line, and every kind of refusal."""
 import json
 import os
+import pty
 import re
 import subprocess
 import time
@@ -133,6 +134,31 @@ class Calls(Case):
         self.assertEqual((status, out.split("\n")[0]), (4, self.path("a.priml") + ":6:8: error: inversion"))
         self.assertNotIn("\033", out)
         self.assertEqual(self.lens("check", "a.priml", program=self.fake(check=(0, "ok\n"))), (0, "a.priml: ok\n", ""))
+
+    def on_terminal(self, **settings):
+        """What a call writes to a terminal."""
+        main, end = pty.openpty()
+        env = dict({name: value for name, value in os.environ.items() if name != "NO_COLOR"}, **dict({"TERM": "xterm"}, **settings))
+        call = subprocess.Popen([LENS, "check", self.file("a.priml", INVERSION), "--program", self.fake(check=(4, "type: inversion at 95\n"))],
+                                stdin=subprocess.DEVNULL, stdout=end, env=env)
+        os.close(end)
+        told = b""
+        try:
+            while True:
+                some = os.read(main, 4096)
+                if not some:
+                    break
+                told += some
+        except OSError:  # a terminal without a writer ends so on Linux
+            pass
+        os.close(main)
+        self.assertEqual(call.wait(), 4)
+        return told.decode()
+
+    def test_colour(self):
+        self.assertIn("\033[1;31merror:\033[0m", self.on_terminal())
+        self.assertNotIn("\033", self.on_terminal(NO_COLOR="1"))
+        self.assertNotIn("\033", self.on_terminal(TERM="dumb"))
 
     def test_json(self):
         self.file("a.priml", INVERSION)

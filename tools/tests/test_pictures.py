@@ -174,15 +174,37 @@ response 0 ui time 301 work 301 span 301 bound 301
         self.assertEqual(self.lens("dot", "a", "-l", "3", "-o", "x")[0], 7)
         self.assertFalse(os.path.exists(self.path("x")))
 
-    def test_a_browser_runs_the_page(self):
+    def browse(self, page, width=1280):
+        """The page as a browser has it after a while."""
         browser = shutil.which("chromium") or shutil.which("chromium-browser") or shutil.which("google-chrome")
         if not browser:
             self.skipTest("no Chromium")
-        path = self.file("page.html", self.run_of("view", "-p", "2"))
         done = subprocess.run([browser, "--headless", "--no-sandbox", "--disable-gpu", "--virtual-time-budget=2000", "--dump-dom",
-                               "--user-data-dir=" + self.path("profile"), "file://" + path],
+                               "--window-size=%d,800" % width, "--user-data-dir=" + self.path("profile"), "file://" + self.file("page.html", page)],
                               stdout=subprocess.PIPE, stderr=subprocess.DEVNULL, timeout=40)
-        out = done.stdout.decode()
+        return done.stdout.decode()
+
+    def test_a_browser_runs_the_page(self):
+        probe = """<script>
+"use strict";
+const told = [document.documentElement.scrollWidth <= innerWidth ? "fits" : "too wide", get("range").textContent];
+const over = (step, row) => canvas.dispatchEvent(new PointerEvent("pointermove",
+  {clientX: x_of(step) + canvas.getBoundingClientRect().left, clientY: canvas.getBoundingClientRect().top + top_ + (row + 0.5) * high_}));
+over(5.5, 1);
+told.push(tip.textContent.replaceAll("\\n", ", "));
+over(1.5, 1);
+told.push(tip.style.display);
+get("in").click();
+told.push((high - low) + " steps");
+frame.dispatchEvent(new KeyboardEvent("keydown", {key: "0"}));
+told.push(get("range").textContent);
+document.querySelectorAll("th button")[4].click();
+told.push([...document.querySelectorAll("tbody td:first-child")].map(one => one.textContent).join(" "));
+const mark = make("p", told.join("; "));
+mark.id = "probe";
+document.body.append(mark);
+</script>"""
+        out = self.browse(self.run_of("view", "-p", "2").replace("</body>", probe + "</body>"), width=500)
         self.assertIn('<p id="summary">2 cores, 9 steps, 3 threads, work 12</p>', out)
         self.assertEqual(len(re.findall(r"<tr title=", out)), 3)
-        self.assertIn("steps 1 to 9", out)
+        self.assertIn('<p id="probe">fits; steps 1 to 9; 0.0 bg, steps 4 to 6, vertex 0.0:1; none; 8 steps; steps 1 to 9; 0.0 0 0.1</p>', out)

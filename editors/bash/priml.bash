@@ -22,6 +22,7 @@ _lens() {
     report | judge) options+=" -p -l --csv --json" ;;
     dot) options+=" -l -o" ;;
     svg | view | trace) options+=" -p -l -o" ;;
+    lsp) options+=" --stdio" ;;
   esac
   COMPREPLY=()
   case $before in

@@ -50,7 +50,8 @@ def parser():
             ("view", page, [limit, cores, out], "one page with plan, threads and bounds, and cost graph"),
             ("trace", trace, [limit, cores, out], "the plan in the Chrome trace event format")):
         add(name, work, parents, told).add_argument("file", metavar="FILE")
-    add("lsp", lsp, [], "a language server on standard streams")
+    one = add("lsp", lsp, [], "a language server on standard streams")
+    one.add_argument("--stdio", action="store_true", help="changes nothing; clients add it")
     return top
 
 

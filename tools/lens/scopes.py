@@ -12,6 +12,7 @@ Token = namedtuple("Token", "text start")
 Priority = namedtuple("Priority", "name start")
 # `start` is that of the word `proc` or `main`, `at` that of the name, `end` is behind its block; `given` are pairs of names.
 Routine = namedtuple("Routine", "name start at end head variables given parameters")
+NO_ROUTINE = Routine("", 0, 0, 0, "", [], [], [])
 
 
 def tokens_of(text):
@@ -136,12 +137,25 @@ class Outline:
                 waiting[-1] = None
         return list(dict.fromkeys(name for block in blocks[::-1] for name in block[::-1]))
 
-    def word_at(self, offset):
-        """The token that has this place or ends at it, and the one before it."""
+    def index_at(self, offset):
+        """The number of the word that has this place or ends at it, or None."""
         for at, token in enumerate(self.tokens):
             if token.start <= offset <= token.start + len(token.text) and re.match(r"\w", token.text):
-                return token, self.word(at - 1)
-        return None, ""
+                return at
+        return None
+
+    def is_priority(self, at):
+        """Whether a priority stands here: behind its words, in an order pair, or in square brackets of other use than types."""
+        if self.word(at - 1) in ("priority", "order", "at"):
+            return True
+        if self.word(at - 1) == "<" and self.word(at - 3) == "order":
+            return True
+        depth = 0
+        for before in range(at - 1, -1, -1):
+            depth += {"]": 1, ")": 1, "}": 1, "[": -1, "(": -1, "{": -1}.get(self.word(before), 0)
+            if depth < 0:
+                return self.word(before) == "[" and self.word(before - 1) not in ("inl", "inr")
+        return False
 
     def before(self, offset):
         """The two tokens before the word that is being typed at a place, the nearer one first."""

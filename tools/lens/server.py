@@ -8,7 +8,7 @@ from urllib.parse import unquote, urlsplit
 
 from . import findings
 from .program import Trouble
-from .scopes import RESERVED, Outline
+from .scopes import NO_ROUTINE, RESERVED, Outline
 from .texts import Text
 
 LINE_END = re.compile(r"\r\n|\n|\r")
@@ -155,13 +155,14 @@ class Server:
 
     def hover(self, given):
         document, outline, offset = self.opened(given)
-        token, before = outline.word_at(offset)
-        if token is None:
+        at = outline.index_at(offset)
+        if at is None:
             return None
+        token = outline.tokens[at]
         routine = next((one for one in outline.routines if one.name == token.text), None)
-        if routine and (before == "call" or routine.at == token.start):
+        if routine and (outline.word(at - 1) == "call" or routine.at == token.start):
             words = "```priml\n%s\n```" % routine.head
-        elif token.text in outline.priorities_at(offset) and is_priority_place(before):
+        elif outline.is_priority(at) and token.text in outline.priorities_at(offset):
             words = self.told_of(outline, token.text, offset)
         else:
             return None
@@ -177,14 +178,16 @@ class Server:
 
     def definition(self, given):
         document, outline, offset = self.opened(given)
-        token, before = outline.word_at(offset)
-        if token is None:
+        at = outline.index_at(offset)
+        if at is None:
             return None
-        places = [one.at for one in outline.routines if before in ("call", "proc") and one.name == token.text]
-        places += [one.start for one in outline.priorities if is_priority_place(before) and one.name == token.text]
+        name = outline.word(at)
+        places = [one.at for one in outline.routines if outline.word(at - 1) in ("call", "proc") and one.name == name]
+        if outline.is_priority(at) and name not in (outline.routine_at(offset) or NO_ROUTINE).variables:
+            places += [one.start for one in outline.priorities if one.name == name]
         if not places:
             return None
-        return {"uri": given["textDocument"]["uri"], "range": document.span(places[0], places[0] + len(token.text))}
+        return {"uri": given["textDocument"]["uri"], "range": document.span(places[0], places[0] + len(name))}
 
     def completion(self, given):
         _, outline, offset = self.opened(given)
@@ -199,10 +202,6 @@ class Server:
         if last == "sync":
             return variables
         return variables + routines + priorities + [item(one, WORD_ITEM, "word") for one in RESERVED]
-
-
-def is_priority_place(before):
-    return before in ("priority", "order", "<", "<=", "at", "[", ",", ";")
 
 
 def item(name, kind, detail):

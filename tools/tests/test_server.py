@@ -55,11 +55,19 @@ class Shown(unittest.TestCase):
             with self.subTest(words):
                 self.assertEqual(self.outline.variables_at(self.at(words)), names)
 
+    def test_where_priorities_stand(self):
+        text = "order a < b; proc f[p, q; p <= a](x : int) at p : int { y <- call f[a, b]((b < a), a); case inl[thread[b](a)](b) }"
+        outline = Outline(text)
+        found = [at for at, token in enumerate(outline.tokens) if token.text in ("a", "b") and outline.is_priority(at)]
+        told = " ".join("(%s)" % token.text if at in found else token.text for at, token in enumerate(outline.tokens))
+        self.assertEqual(told, "order (a) < (b) ; proc f [ p , q ; p <= (a) ] ( x : int ) at p : int { y <- call f [ (a) , (b) ] "
+                               "( ( b < a ) , a ) ; case inl [ thread [ (b) ] ( a ) ] ( b ) }")
+
     def test_texts_that_are_being_typed(self):
         for end in range(len(SOURCE)):
             outline = Outline(SOURCE[:end])
             for offset in (0, end // 2, end):
-                outline.variables_at(offset), outline.priorities_at(offset), outline.before(offset), outline.word_at(offset)
+                outline.variables_at(offset), outline.priorities_at(offset), outline.before(offset), outline.index_at(offset)
         for text in ("proc", "main", "proc f", "proc f[", "order", "{}}}", "\x00"):
             Outline(text).variables_at(len(text))
 

@@ -21,8 +21,8 @@ def explain(answer, text):
     title, asks, mends = (filled(words, named) for words in (kind.title, asks, mends))
     if offset is None:
         return Finding(text.name, answer.status, line, kind.family, title, asks, mends, None, 0)
-    return Finding(text.name, answer.status, line, kind.family, title, asks, mends, text.place(offset),
-                   text.token_length(offset))
+    place = text.place(offset)
+    return Finding(text.name, answer.status, line, kind.family, title, asks, mends, place, text.token_length(place.offset))
 
 
 def filled(words, named):

@@ -5,7 +5,9 @@ import pty
 import re
 import subprocess
 import time
+import unicodedata
 import unittest
+from random import Random
 
 from case import LENS, TOP, Case
 from lens import findings, refusals
@@ -122,6 +124,20 @@ priority or a higher one, or move the `sync` into a thread of a lower one; in a 
 
     def test_a_section_that_is_not_there(self):
         self.assertEqual(self.first_lines("flaw: step 1 unfinished 0:0", "main")[0], "f.priml:1:5: error: unfinished")
+
+    def test_random_texts_and_places(self):
+        """Nothing is raised, no control character is shown, and no line is long, whatever the bytes and the place are."""
+        random = Random(20)
+        pieces = [b"\n", b"\r", b"\t", b"a", b" ", b"===", b"===inputs\n", b"\xff", b"\xe2\x80\xae", "é漢😀e\u0301".encode(), b"\x1b[2J", b"\x00", b"<-", b"x" * 300]
+        for _ in range(3000):
+            data = b"".join(random.choice(pieces) for _ in range(random.randrange(30)))
+            line = random.choice(["source: unexpected at %d", "inputs: bad line %d", "section: twice at line %d", "flaw: step %d twice 0:0"])
+            told = shown(line % random.choice([0, 1, 7, random.randrange(len(data) + 3), 10 ** 7, 10 ** 25]), data)
+            lines = told.split("\n")
+            self.assertRegex(lines[0], r"\Af\.priml:[1-9][0-9]*:[1-9][0-9]*: error: ")
+            self.assertEqual(len(lines), 5)
+            self.assertLess(len(lines[1]), 500)
+            self.assertFalse([one for one in told if unicodedata.category(one)[0] == "C" and one != "\n"])
 
     def test_no_place(self):
         self.assertEqual(shown("limit: input", "x").split("\n")[0], "f.priml: error: limit: input")

@@ -5,7 +5,7 @@ import os
 import sys
 
 from . import answers, drawing, findings, report, server, traces, view
-from .program import Program, Refusal, Trouble, read_file
+from .program import Program, Refusal, Trouble, read_file, reason
 from .texts import plain
 
 MOST_STEPS = "100000"
@@ -80,7 +80,7 @@ class Session:
             with open(out, "w", encoding="utf-8", newline="\n") as file:
                 file.write(text)
         except (OSError, ValueError) as fault:
-            raise Trouble("cannot write %s: %s" % (out, getattr(fault, "strerror", None) or fault))
+            raise Trouble("cannot write %s: %s" % (out, reason(fault)))
 
 
 def check(session):
@@ -188,7 +188,7 @@ def main(top):
         return CLOSED
     except OSError as fault:
         os.dup2(os.open(os.devnull, os.O_WRONLY), sys.stdout.fileno())
-        complain("cannot write the output: %s" % (fault.strerror or fault))
+        complain("cannot write the output: %s" % reason(fault))
         return CLOSED
     except KeyboardInterrupt:
         return 130

@@ -53,7 +53,9 @@ def ended(code):
 
 
 def reason(fault):
-    return getattr(fault, "strerror", None) or str(fault)
+    """The system's words for a fault, without the path that some versions of Python add."""
+    number = getattr(fault, "errno", None)
+    return os.strerror(number) if number else str(fault)
 
 
 def read_file(name, standard_input):

@@ -119,12 +119,20 @@ class Server:
             document = self.documents[name]
             text = Text(path_of(name), document.data)
             try:
-                answer = self.program.answer(["check"], document.data)
+                answer = self.fault_of(text)
             except Trouble as trouble:
                 log(str(trouble))
                 self.publish(name, [])
                 continue
-            self.publish(name, [] if answer.status == 0 else [diagnostic(document, findings.explain(answer, text))])
+            self.publish(name, [] if answer is None else [diagnostic(document, findings.explain(answer, text))])
+
+    def fault_of(self, text):
+        """The program's refusal of a text, or None. Inputs are looked at by a run of one step, whose end plays no part."""
+        answer = self.program.answer(["check"], text.data)
+        if answer.status == 0 and "inputs" in text.sections():
+            answer = self.program.answer(["serial", "1"], text.data)
+            return answer if answer.status == 5 else None
+        return answer if answer.status else None
 
     def publish(self, name, faults):
         self.write({"jsonrpc": "2.0", "method": "textDocument/publishDiagnostics", "params": {"uri": name, "diagnostics": faults}})

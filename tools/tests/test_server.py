@@ -122,6 +122,11 @@ class Served(Case):
         self.assertEqual((one["severity"], one["code"], one["source"]), (1, "inversion", "priml"))
         self.assertTrue(one["message"].startswith("inversion: A thread waits only"))
 
+    def test_faults_of_inputs(self):
+        for serial, lines in (((5, "inputs: bad line 1\n"), [15]), ((7, "limit: steps\n"), []), ((2, "words: not built\n"), []), ((0, "work 1\n"), [])):
+            found = self.talk(self.opened(), program=self.fake(check=(0, "ok\n"), serial=serial))[1]
+            self.assertEqual([one["range"]["start"]["line"] for one in found[0]["params"]["diagnostics"]], lines)
+
     def test_only_the_last_text_is_checked(self):
         change = ("textDocument/didChange", {"textDocument": {"uri": "file:///a%20b.priml"}, "contentChanges": [{"text": "x"}]})
         _, found, _ = self.talk(self.opened(), change, change, program=self.fake(check=(3, "source: unexpected at 1\n")))

@@ -51,13 +51,16 @@ class Case(unittest.TestCase):
         """The output of the program itself."""
         return subprocess.run([PROGRAM] + list(words), input=given, stdout=subprocess.PIPE).stdout.decode()
 
+    def has(self, command):
+        """Whether the program has this command."""
+        numbers = {"check": [], "serial": ["1"], "graph": ["1"]}
+        words = [PROGRAM, command] + numbers.get(command, ["1", "1"])
+        return subprocess.run(words, input=b"", stdout=subprocess.PIPE).stdout != b"words: not built\n"
+
     def need(self, *commands):
         """Skips a test where the program is not there or lacks one of the commands."""
         if PROGRAM is None:
             self.skipTest("no built program (set PRIML to name one)")
-        numbers = {"check": [], "serial": ["1"], "graph": ["1"]}
         for command in commands:
-            words = [PROGRAM, command] + numbers.get(command, ["1", "1"])
-            done = subprocess.run(words, input=b"", stdout=subprocess.PIPE)
-            if done.stdout == b"words: not built\n":
+            if not self.has(command):
                 self.skipTest("the program has no `%s` yet" % command)

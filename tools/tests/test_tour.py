@@ -27,16 +27,18 @@ class Tour(Case):
         self.file(name, text)
 
     def test_calls(self):
-        self.need("check", "serial", "report", "judge")
+        self.need("check", "serial", "report")
         os.symlink(LENS, self.path("lens"))
         os.symlink(os.path.abspath(PROGRAM), self.path("priml"))
         called = 0
         for block in self.blocks:
             for call, told in re.findall(r"^\$ (.*)\n((?:[^$].*\n)*)", block, re.MULTILINE):
+                called += 1
+                if "lens judge" in call and not self.has("judge"):
+                    continue
                 with self.subTest(call):
                     done = subprocess.run(call, shell=True, cwd=self.folder.name, stdout=subprocess.PIPE, stderr=subprocess.STDOUT)
                     self.assertEqual(done.stdout.decode(), told)
-                called += 1
         self.assertEqual(called, 14)
 
     def error(self, *words):
@@ -44,7 +46,7 @@ class Tour(Case):
         return re.search(r"error: (.*)", out + told).group(1)
 
     def test_what_to_try(self):
-        self.need("check", "report", "judge", "serial")
+        self.need("check", "report", "serial")
         self.changed("first.priml", ("{ ret 4096 }", "{ told <- output 4096; ret 4096 }"))
         self.assertIn("thread 0.0 bg 3 ", self.asked("serial", "100", given=self.data("first.priml")))
         self.changed("third.priml", ("order bg < ui;", "order bg < ui; order ui < bg;"))
@@ -57,6 +59,7 @@ class Tour(Case):
         self.assertEqual(self.error("check", "sums.priml"), "constraint")
         self.changed("sums.priml", wrong, ("; p <= q", ""))
         self.assertEqual(self.error("check", "sums.priml"), "inversion")
+        self.need("judge")
         self.assertEqual(self.error("judge", "better.priml", "-p", "2"), "step 3 leaves a core idle")
 
     def data(self, name):

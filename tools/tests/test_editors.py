@@ -5,7 +5,7 @@ import re
 import shutil
 import subprocess
 
-from case import LENS, TOP, Case
+from case import LENS, PROGRAM, TOP, Case
 from lens import commands
 from lens.scopes import RESERVED
 
@@ -74,13 +74,56 @@ class Vim(Case):
         self.file("a.priml", "")
         self.assertEqual(self.vim("filetype plugin on", "edit a.priml", asked=["&makeprg"]), ["'lens' check %:S"])
 
-
     def test_making(self):
         self.file("a b.priml", "x\n")
         out = self.vim("let $PRIML = '%s'" % self.fake(check=(3, "source: unexpected at 0\n")), "let g:priml_lens = '%s'" % LENS,
                        "filetype plugin on", "edit a\\ b.priml", "silent make!",
                        asked=["json_encode(map(getqflist(), '[bufname(v:val.bufnr), v:val.lnum, v:val.col, split(v:val.text, nr2char(10))[0]]'))"])
         self.assertEqual(json.loads(out[0]), [["a b.priml", 1, 1, "unexpected"]])
+
+
+class Neovim(Case):
+    SCRIPT = """
+local told = {}
+local function wait(holds)
+  vim.wait(20000, holds, 50)
+  local messages = {}
+  for _, one in ipairs(vim.diagnostic.get(0)) do
+    table.insert(messages, { one.lnum + 1, one.col + 1, vim.split(one.message, "\\n")[1] })
+  end
+  table.insert(told, messages)
+end
+local function faults(number)
+  return function() return #vim.diagnostic.get(0) == number end
+end
+vim.cmd("luafile " .. vim.env.CLIENT)
+vim.cmd("edit a.priml")
+wait(faults(1))
+vim.api.nvim_buf_set_lines(0, 1, 2, false, { "main at p : int { ret 1 }" })
+wait(faults(0))
+vim.api.nvim_buf_set_lines(0, 1, 2, false, { "main at q : int { ret 1 }" })
+wait(faults(1))
+local file = io.open("told.json", "w")
+file:write(vim.fn.json_encode(told))
+file:close()
+vim.cmd("quitall!")
+"""
+
+    def test_faults_as_the_text_changes(self):
+        self.need("check")
+        if not shutil.which("nvim"):
+            self.skipTest("no nvim")
+        self.file("a.priml", "priority p;\nmain at p : int { ret true }\n")
+        self.file("script.lua", self.SCRIPT)
+        env = dict(os.environ, CLIENT=os.path.join(EDITORS, "neovim", "priml.lua"), PRIML=PROGRAM, XDG_STATE_HOME=self.folder.name,
+                   XDG_CACHE_HOME=self.folder.name, PATH=TOP + os.pathsep + os.environ["PATH"])
+        subprocess.run(["nvim", "--headless", "-u", "NONE", "-n", "-c", "luafile script.lua"], cwd=self.folder.name, env=env,
+                       stdin=subprocess.DEVNULL, stdout=subprocess.PIPE, stderr=subprocess.STDOUT, timeout=90)
+        with open(self.path("told.json"), encoding="utf-8") as file:
+            told = json.load(file)
+        self.assertEqual([[one[:2] for one in state] for state in told], [[[2, 1]], [], [[2, 9]]])
+        self.assertIn("mismatch", told[0][0][2])
+        self.assertIn("unknown name", told[2][0][2])
 
 
 class Shell(Case):

@@ -253,5 +253,5 @@ class Calls(Case):
         text = Text("large", data)
         finding = findings.explain(Answer(3, "source: unexpected at %d\n" % len(data)), text)
         findings.as_text(finding, text, findings.Ink(True))
-        self.assertLess(time.process_time() - began[0], 0.5)
+        self.assertLess(time.process_time() - began[0], 1)
         self.assertIn("large:838001:5: error: unexpected", self.lens("check", "large", program=program)[1])

@@ -1,6 +1,7 @@
 //! The layers on cost graphs: the graph of a run, its plan, and the rows of a report.
-ghost use Rattle.std.specs.Prelude.{◌≡◌, ◌↔◌, ◌<◌, ◌≤◌, ◌++◌, ℕ, List, length, map, IfOk, IfErr, OnOk};
+ghost use Rattle.std.specs.Prelude.{◌≡◌, ◌↔◌, ◌<◌, ◌≤◌, ◌++◌, ℕ, List, [], unwrap_or, length, map, IfOk, IfErr, OnOk};
 ghost use Rattle.std.specs.List.{All};
+ghost use Rattle.priml_io.specs.Sections.{bytes_of};
 ghost use Rattle.priml_syntax.specs.Read.{read_record};
 ghost use Rattle.priml_syntax.specs.Tree.{Tree};
 ghost use Rattle.priml_syntax.specs.declared.record.Record.{Record as TheRecord};
@@ -17,12 +18,12 @@ ghost use Rattle.priml.specs.Layers as the;
 ghost use Rattle.priml.specs.Prefixes.{IsSound};
 ghost use Rattle.priml.specs.Reply.{Gives, Stops, Replies};
 
-use crate::layers::done;
-use crate::refusal::{Stop, report_too_large};
+use crate::layers::{done, section};
+use crate::refusal::{Stop, flaw_refusal, report_too_large, schedule_stop};
 use cost_graph::Graph;
 use priml_syntax::Records;
 use priority_order::Order;
-use prompt_checker::Schedule;
+use prompt_checker::{Schedule, Verdict, judge, read_schedule};
 use prompt_planner::plan as the_plan;
 use response_report::{ReportStop, Row, response_text, rows as the_rows};
 use serial_meaning::run_text;
@@ -50,6 +51,38 @@ pub fn plan(alloc: Global, graph: &Graph, order: &Order, cores: u32) -> Result<S
 {
     match the_plan(alloc, graph, order, cores) {
         Ok(schedule) => Ok(schedule),
+        Err(_) => Err(Stop::OutOfMemory),
+    }
+}
+
+/// The schedule of the section.
+pub fn schedule(alloc: Global, graph: &Graph, text: Option<&[u8]>) -> Result<Schedule, Stop>
+    ensures schedule { Gives (the.schedule graph.now (unwrap_or (bytes_of text.entry) [])) steps_of result }
+    ensures within { IfOk result (λ s. All (λ step. All (λ v. v < vertex_total graph.now) step) (steps_of s)) }
+{
+    match read_schedule(alloc, section(text), graph) {
+        Ok(schedule) => Ok(schedule),
+        Err(fault) => Err(schedule_stop(fault)),
+    }
+}
+
+/// The graph again, where the schedule is prompt on so many cores.
+pub fn prompt(
+    alloc: Global,
+    graph: Graph,
+    order: &Order,
+    cores: u32,
+    schedule: &Schedule,
+) -> Result<Graph, Stop>
+    requires sound { IsSound graph order.now }
+    requires cores { 1 ≤ cores }
+    requires within { All (λ step. All (λ v. v < vertex_total graph) step) (steps_of schedule.now) }
+    ensures prompt { Gives (the.prompt order.now.pairs graph cores (steps_of schedule.now)) (λ _. tt) result }
+    ensures same { IfOk result (λ g. g ≡ graph) }
+{
+    match judge(alloc, &graph, order, cores, schedule) {
+        Ok(Verdict::Prompt) => Ok(graph),
+        Ok(Verdict::Flaw(flaw)) => Err(Stop::Refused(flaw_refusal(graph, flaw))),
         Err(_) => Err(Stop::OutOfMemory),
     }
 }

@@ -35,3 +35,15 @@ report-requires-clause-most c = (subst IsInRange c.in-Report.is c.requires.range
 
 pub returns-in-Report : goal.returns-in-Report
 returns-in-Report c = subst (λ d. Replies (Of d c.args.input.now) c.report.result) (sym c.in-Report.is) c.report.ensures
+
+pub judge-requires-clause-some : goal.judge-requires-clause-some
+judge-requires-clause-some c = (subst IsInRange c.in-Judge.is c.requires.range).0
+
+pub judge-requires-clause-few : goal.judge-requires-clause-few
+judge-requires-clause-few c = (subst IsInRange c.in-Judge.is c.requires.range).1
+
+pub judge-requires-clause-most : goal.judge-requires-clause-most
+judge-requires-clause-most c = (subst IsInRange c.in-Judge.is c.requires.range).2
+
+pub returns-in-Judge : goal.returns-in-Judge
+returns-in-Judge c = subst (λ d. Replies (Of d c.args.input.now) c.judge.result) (sym c.in-Judge.is) c.judge.ensures

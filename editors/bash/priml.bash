@@ -21,7 +21,8 @@ _lens() {
     check) options+=" --json" ;;
     report | judge) options+=" -p -l --csv --json" ;;
     dot) options+=" -l -o" ;;
-    svg | view | trace) options+=" -p -l -o" ;;
+    svg | view) options+=" -p -l -o" ;;
+    trace) options+=" -p --workers -q -l -o" ;;
     lsp) options+=" --stdio" ;;
   esac
   COMPREPLY=()

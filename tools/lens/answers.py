@@ -8,10 +8,12 @@ Thread = namedtuple("Thread", "path priority steps outcome outputs")
 Row = namedtuple("Row", "path priority time work span bound")
 Graph = namedtuple("Graph", "threads spawns joins")  # threads as (path, priority, steps); edges as pairs of vertices
 Report = namedtuple("Report", "threads work cores steps rows")
+Cut = namedtuple("Cut", "path first steps worker")
 
 THREAD = re.compile(r"thread ([0-9.]+) ([A-Za-z_]\w*) (\d+) ((?:value|fault) .+)")
 RESPONSE = re.compile(r"response ([0-9.]+) ([A-Za-z_]\w*) time (\d+) work (\d+) span (\d+) bound (\d+)")
 OUT = re.compile(r"out((?: -?\d+)+)")
+CUT = re.compile(r"cut ([0-9.]+) from (\d+) steps (\d+) worker (\d+)")
 BARE_THREAD = re.compile(r"thread ([0-9.]+) ([A-Za-z_]\w*) (\d+)")
 EDGE = re.compile(r"(spawn|join) ([0-9.]+:\d+) ([0-9.]+:\d+)")
 
@@ -66,3 +68,15 @@ def read_plan(text):
             raise not_understood(line)
         steps.append([(path, int(number)) for path, _, number in vertices])
     return steps
+
+
+def read_cuts(text):
+    """The cuts of a trace, behind the run text."""
+    cuts = []
+    for line in text.splitlines():
+        cut = CUT.fullmatch(line)
+        if cut:
+            cuts.append(Cut(cut.group(1), *map(int, cut.groups()[1:])))
+        elif not (THREAD.fullmatch(line) or OUT.fullmatch(line) or re.fullmatch(r"work \d+", line)):
+            raise not_understood(line)
+    return cuts

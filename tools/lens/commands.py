@@ -47,9 +47,14 @@ def parser():
     for name, work, parents, told in (
             ("dot", dot, [limit, out], "the cost graph for Graphviz"),
             ("svg", svg, [limit, cores, out], "the plan as a picture: cores down, steps across"),
-            ("view", page, [limit, cores, out], "one page with plan, threads and bounds, and cost graph"),
-            ("trace", trace, [limit, cores, out], "the plan in the Chrome trace event format")):
+            ("view", page, [limit, cores, out], "one page with plan, threads and bounds, and cost graph")):
         add(name, work, parents, told).add_argument("file", metavar="FILE")
+    one = add("trace", trace, [limit, out], "the plan, or the cuts of a run on workers, in the Chrome trace event format")
+    shown = one.add_mutually_exclusive_group(required=True)
+    shown.add_argument("-p", dest="cores", metavar="CORES", help="the plan on so many cores")
+    shown.add_argument("--workers", metavar="WORKERS", help="a run on so many workers")
+    one.add_argument("-q", dest="quantum", metavar="STEPS", default="64", help="steps that a worker makes in one turn (%(default)s)")
+    one.add_argument("file", metavar="FILE")
     one = add("lsp", lsp, [], "a language server on standard streams")
     one.add_argument("--stdio", action="store_true", help="changes nothing; clients add it")
     return top
@@ -147,8 +152,15 @@ def svg(session):
 
 
 def trace(session):
+    words = session.words
+    if words.workers:
+        text = session.read(words.file)
+        cuts = answers.read_cuts(session.program.ask(["trace", words.workers, words.quantum, words.limit], text))
+        graph = answers.read_graph(session.program.ask(["graph", words.limit], text))
+        session.write(traces.of_cuts(graph, cuts, int(words.workers), title(text)))
+        return 0
     text, graph, steps = run_of(session)
-    session.write(traces.trace(graph, steps, int(session.words.cores), title(text)))
+    session.write(traces.trace(graph, steps, int(words.cores), title(text)))
     return 0
 
 

@@ -124,6 +124,21 @@ class Pictures(Case):
         self.assertEqual(runs[3]["args"], {"thread": "0", "priority": "ui", "first vertex": "0:4", "first step": 7, "last step": 9})
         self.assertEqual([one["ph"] for one in events if one["ph"] in "sf"], ["s", "f"] * 3)
 
+    def test_cuts_of_workers(self):
+        told = ("thread 0 ui 4 value 1\nthread 0.0 bg 3 value 2\nwork 7\ncut 0 from 0 steps 2 worker 0\ncut 0 from 2 steps 2 worker 1\n"
+                "cut 0.0 from 0 steps 2 worker 1\ncut 0.0 from 2 steps 1 worker 0\n")
+        graph = "thread 0 ui 4\nthread 0.0 bg 3\nspawn 0:1 0.0:0\njoin 0.0:2 0:2\n"
+        self.file("a.priml", "")
+        words = ["trace", "a.priml", "--workers", "2"]
+        status, out, err = self.lens(*words, program=self.fake(trace=(0, told), graph=(0, graph)))
+        self.assertEqual((status, err), (0, ""))
+        events = json.loads(out)["traceEvents"]
+        self.assertEqual([one["args"]["name"] for one in events if one["ph"] == "M"], ["a.priml on 2 workers", "worker 0", "worker 1"])
+        self.assertEqual([(one["name"], one["tid"], one["ts"], one["dur"]) for one in events if one["ph"] == "X"],
+                         [("0 ui", 0, 0, 2), ("0.0 bg", 1, 2, 2), ("0.0 bg", 0, 4, 1), ("0 ui", 1, 5, 2)])
+        status, out, err = self.lens(*words, program=self.fake(graph=(0, graph)))
+        self.assertEqual((status, out, err), (1, "", "lens: the program does not have the command `trace` yet\n"))
+
     def test_view(self):
         out = self.run_of("view", "-p", "2")
         self.assertNotRegex(out, r"https?://(?!www\.w3\.org/2000/svg)")

@@ -1,5 +1,5 @@
 //! Tasks, and what can be seen of them.
-ghost use Rattle.std.specs.Prelude.{◌≡◌, IfOk, IfErr, length, slice_get};
+ghost use Rattle.std.specs.Prelude.{◌≡◌, IfOk, IfErr, length, slice_get, ◌<◌};
 ghost use Rattle.std.specs.Option.{option_copied, option_map};
 ghost use Rattle.core_steps.specs.Fields.{read_local, state_of};
 ghost use Rattle.core_steps.specs.Locals.{IsLocal};
@@ -49,7 +49,16 @@ impl Task {
         ensures start { IfOk result (λ t. IsStart (job_of job.now) (read_task t)) }
         ensures root { IfOk result (λ t. option_map (λ m. root_state m 0) (slice_get (job_of job.now).program.mains 0) ≡ state_of (job_of job.now).program (read_task t).local) }
     {
-        let local = Local::root(alloc, job)?;
+        Task::root_at(alloc, job, 0)
+    }
+
+    /// The task of the k-th root, from 0, not started.
+    pub fn root_at(alloc: Global, job: &Job, k: u32) -> Result<Task, AllocError>
+        requires { k < length (job_of job.now).program.mains }
+        ensures start { IfOk result (λ t. IsStart (job_of job.now) (read_task t)) }
+        ensures root { IfOk result (λ t. option_map (λ m. root_state m k) (slice_get (job_of job.now).program.mains k) ≡ state_of (job_of job.now).program (read_task t).local) }
+    {
+        let local = Local::root_at(alloc, job, k)?;
         begin(alloc, local)
     }
 

@@ -117,7 +117,7 @@ def reader(r):
 
 def running(r):
     makers = [lambda r: Typed(r, ends=True).program().split(), tree, deep, arithmetic, reader]
-    return spaced(r, r.choices(makers, [28, 34, 3, 22, 13])[0](r))
+    return spaced(r, r.choices(makers, [27, 32, 8, 20, 13])[0](r))
 
 
 # ---------------------------------------------------------------- inputs

@@ -135,7 +135,7 @@ def blanks(r, least):
 
 def input_lines(r):
     lines = []
-    for path in sorted(set(r.choice(PATHS) for _ in range(r.randrange(5))), key=lambda _: r.random()):
+    for path in sorted(sorted({r.choice(PATHS) for _ in range(r.randrange(5))}), key=lambda _: r.random()):
         numbers = [r.choice(NUMBERS) for _ in range(r.randrange(7))]
         lines.append(path + ":" + blanks(r, 0) + "".join(n + blanks(r, 1) for n in numbers[:-1]) + "".join(numbers[-1:]) + blanks(r, 0))
         lines += r.choice([[], [], [], ["# 0: 5x"], [""], [" \t\r"]])

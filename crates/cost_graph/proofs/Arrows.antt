@@ -92,7 +92,7 @@ module _ (xs : List Part) (finished : AreFinished xs) (apart : AreApart xs) (t :
           let found = part_found xs u.path x h.1 in
           let short : length u.path ≡ 0 = omega (arith, long, ap length h.4, child_long u.path (spawns (take u.number x.events))) in
           let x_short : length x.path ≡ 0 = omega (arith, short, ap length found.3) in
-          let other : x.path ≢ 0 ∷ [] = λ e. omega (arith, x_short, ap length e) in
+          let other : length x.path ≢ 1 = λ e. omega (arith, x_short, e) in
           let r = finished.spawned x (part_among xs u.path x h.1) other in
           omega (arith, x_short, ap length r.3, child_long r.0.path r.1)
 
@@ -100,7 +100,7 @@ module _ (xs : List Part) (finished : AreFinished xs) (apart : AreApart xs) (t :
   pub spawner_there : (depth : ℕ) → length (part_nth xs t).path ≡ depth + 1 → 0 < depth → HasSpawn xs (take depth (part_nth xs t).path) (get_or (part_nth xs t).path depth 0)
   spawner_there depth long deep =
       let p : List ℕ = (part_nth xs t).path in
-      let other : p ≢ 0 ∷ [] = λ e. omega (arith, long, deep, ap length e) in
+      let other : length p ≢ 1 = λ e. omega (arith, long, deep, e) in
       let r = finished.spawned (part_nth xs t) (nth_among xs t t_lt) other in
       let same = child_same (take depth p) r.0.path (get_or p depth 0) r.1 (sym (last_part p depth long) ∙ r.3) in
       record { part = r.0; is = ap (part_at xs) same.0 ∙ part_of_member xs r.0 apart r.2; some = subst (λ k. k < spawns r.0.events) (sym same.1) r.4 }

@@ -12,7 +12,7 @@ use Rattle.priml_syntax.specs.Paths.{child_path}
 use Rattle.priml_syntax.specs.Events.{one_spawn, spawns}
 use Rattle.priml_syntax.specs.Read.{read_record}
 use Rattle.priml_syntax.specs.Records.{InPathOrder}
-use Rattle.cost_graph.specs.Records.{Part, part_of, parts_in, part_at, event_total, IsThere, AreFinished}
+use Rattle.cost_graph.specs.Records.{Part, part_of, parts_in, part_at, event_total, IsThere, HasRoots, AreFinished}
 use Rattle.cost_graph.specs.Tables.{part_nth, first_in, HasSpawn}
 use Rattle.cost_graph.specs.Finished.{Fits, AreEventsFit, HasSpawner, IsPartFinished}
 use Rattle.cost_graph.proofs.Members.{decides_eq}
@@ -50,7 +50,7 @@ spawner_from xs p depth long h other =
     let is : p ≡ child_path h.part.path (get_or p depth 0) = last_apart p depth long ∙ ap (λ q. child_path q (get_or p depth 0)) (sym found.3) in
     (h.part, get_or p depth 0, part_among xs (take depth p) h.part h.is, is, h.some)
 
-pub spawner_to : (xs : List Part) (p : List ℕ) (depth : ℕ) → AreApart xs → length p ≡ depth + 1 → p ≢ 0 ∷ [] → HasSpawner xs p → HasSpawn xs (take depth p) (get_or p depth 0)
+pub spawner_to : (xs : List Part) (p : List ℕ) (depth : ℕ) → AreApart xs → length p ≡ depth + 1 → length p ≢ 1 → HasSpawner xs p → HasSpawn xs (take depth p) (get_or p depth 0)
 spawner_to xs p depth apart long other h =
     let s = h other in
     let same = child_same (take depth p) s.0.path (get_or p depth 0) s.1 (sym (last_apart p depth long) ∙ s.3) in
@@ -109,10 +109,10 @@ each_finished xs h x c =
       children = λ k lt. h.children x k c lt;
     }
 
-pub all_finished : (xs : List Part) → event_total xs < 2 ^ 32 → IsThere xs (0 ∷ []) → ((x : Part) → Contains xs x → IsPartFinished xs x) → AreFinished xs
-all_finished xs few root each =
+pub all_finished : (xs : List Part) → event_total xs < 2 ^ 32 → (count : ℕ) × (0 < count) × HasRoots xs count → ((x : Part) → Contains xs x → IsPartFinished xs x) → AreFinished xs
+all_finished xs few roots each =
     record {
-      root = root;
+      roots = roots;
       spawned = λ x c. (each x c).spawner;
       children = λ x k c lt. (each x c).children k lt;
       joined = λ x n p c at. ((each x c).events.each n (Join p) at).2;

@@ -21,6 +21,7 @@ pub mod OneGraph
 pub mod Said
 pub mod Ordered
 pub mod JobEnds
+pub mod RootsCounted
 pub mod Unfit
 pub mod Frontiers
 pub mod Edges

@@ -47,7 +47,7 @@ each_part p [] j h lt = absurd (omega (arith, lt))
 each_part p (e ∷ es) zero h lt = h.0
 each_part p (e ∷ es) (suc j) h lt = each_part p es j h.1 (omega (arith, lt))
 
-parts_rise : (es : List Entry) (i j : ℕ) → InPathOrder es → i < j → j < length es → Precedes (part_nth (parts_of es) i).path (part_nth (parts_of es) j).path
+pub parts_rise : (es : List Entry) (i j : ℕ) → InPathOrder es → i < j → j < length es → Precedes (part_nth (parts_of es) i).path (part_nth (parts_of es) j).path
 parts_rise [] i j h less lt = absurd (omega (arith, lt))
 parts_rise (e ∷ es) i zero h less lt = absurd (omega (arith, less))
 parts_rise (e ∷ es) zero (suc j) h less lt = each_part e.path es j h.0 (omega (arith, lt))

@@ -1,5 +1,5 @@
 -- What is asked of each record of a finished job.
-use Rattle.std.specs.Prelude.{◌≡◌, ◌≢◌, ℕ, ◌<◌, Bool, true, false, List, [], ◌∷◌, Some, slice_get, length, nat_eq, ◌+◌}
+use Rattle.std.specs.Prelude.{◌≡◌, ◌≢◌, ℕ, ◌<◌, Bool, true, false, List, Some, slice_get, length, nat_eq, ◌+◌}
 use Rattle.priml_syntax.specs.declared.event.Event.{Event}
 use Rattle.priml_syntax.specs.declared.event.Event.TheVariants.{Start, Plain, Spawn, Join, Read, Wrote, End}
 use Rattle.priml_syntax.specs.Paths.{child_path}
@@ -21,9 +21,9 @@ pub record AreEventsFit (xs : List Part) (es : List Event) : Type 0 where
   pub some : 0 < length es
   pub each : (n : ℕ) (e : Event) → slice_get es n ≡ Some e → Fits xs e (nat_eq n 0) (nat_eq (n + 1) (length es))
 
--- the thread of the path is the root, or some thread spawned it
+-- the thread of the path is a root, or some thread spawned it
 abbrev pub HasSpawner : List Part → List ℕ → Type 0
-HasSpawner xs p = p ≢ 0 ∷ [] → IsSpawned xs p
+HasSpawner xs p = length p ≢ 1 → IsSpawned xs p
 
 -- the first children of the path are there
 abbrev pub HasChildren : List Part → List ℕ → ℕ → Type 0

@@ -81,10 +81,15 @@ IsThere xs p = (x : Part) × (part_at xs p ≡ Some x)
 abbrev pub IsSpawned : List Part → List ℕ → Type 0
 IsSpawned xs p = (y : Part) × (k : ℕ) × Contains xs y × (p ≡ child_path y.path k) × (k < spawns y.events)
 
+-- the roots, which are the threads whose path has one part, are 0 to count - 1
+abbrev pub HasRoots : List Part → ℕ → Type 0
+HasRoots xs count = (k : ℕ) → IsThere xs (k ∷ []) ↔ (k < count)
+
 -- the threads of a job that has finished, each with all its events
 pub record AreFinished (xs : List Part) : Type 0 where
-  pub root : IsThere xs (0 ∷ [])
-  pub spawned : (x : Part) → Contains xs x → x.path ≢ 0 ∷ [] → IsSpawned xs x.path
+  -- there is a root at least, and each other thread is spawned
+  pub roots : (count : ℕ) × (0 < count) × HasRoots xs count
+  pub spawned : (x : Part) → Contains xs x → length x.path ≢ 1 → IsSpawned xs x.path
   pub children : (x : Part) (k : ℕ) → Contains xs x → k < spawns x.events → IsThere xs (child_path x.path k)
   pub joined : (x : Part) (n : ℕ) (p : List ℕ) → Contains xs x → slice_get x.events n ≡ Some (Join p) → IsThere xs p
   -- Start is just the first event, and End just the last

@@ -1,9 +1,9 @@
 //! Whether records are those of a finished job.
-ghost use Rattle.std.specs.Prelude.{◌≡◌, ℕ, ◌<◌, ◌^◌, ◌↔◌, ◌++◌, [], ◌∷◌, length, map, IsTrue, IfOk};
+ghost use Rattle.std.specs.Prelude.{◌≡◌, ◌≢◌, ℕ, ◌<◌, ◌^◌, ◌↔◌, ◌++◌, [], ◌∷◌, length, map, IsTrue, IfOk, IfSome, IfNone};
 ghost use Rattle.priml_syntax.specs.Events.{one_spawn, spawns};
 ghost use Rattle.priml_syntax.specs.Read.{read_record};
 ghost use Rattle.priml_syntax.specs.Records.{InPathOrder};
-ghost use Rattle.cost_graph.specs.Records.{part_of, parts_in, event_total, IsThere, AreFinished};
+ghost use Rattle.cost_graph.specs.Records.{part_of, parts_in, event_total, IsThere, HasRoots, AreFinished};
 ghost use Rattle.cost_graph.specs.Tables.{HasSpawn};
 ghost use Rattle.cost_graph.specs.Finished.{IsPartFinished, HasSpawner, HasChildren, AreEventsFit, Fits};
 
@@ -19,7 +19,7 @@ pub fn are_finished(alloc: Global, records: &Records) -> Result<bool, AllocError
     if !are_few(list) {
         return Ok(false);
     }
-    if !is_there(list, &[0]) {
+    if !are_roots(list) {
         return Ok(false);
     }
     for one in list {
@@ -43,6 +43,34 @@ fn are_few(list: &[Record]) -> bool
         left -= events.len();
     }
     true
+}
+
+// Whether the paths of one part are 0 to some last one, and there is one at least.
+fn are_roots(list: &[Record]) -> bool
+    requires { InPathOrder (map read_record list.now) }
+    ensures { IsTrue result ↔ ((count : ℕ) × (0 < count) × HasRoots (parts_in list.now) count) }
+{
+    let mut count = 0;
+    for one in list {
+        if let Some(k) = root_number(one.path.parts()) {
+            if k as usize != count {
+                return false;
+            }
+            count += 1;
+        }
+    }
+    count > 0
+}
+
+// The number of the root of this path, if it has one part.
+fn root_number(path: &[u32]) -> Option<u32>
+    ensures some { IfSome result (λ k. path.now ≡ k ∷ []) }
+    ensures none { IfNone result (length path.now ≢ 1) }
+{
+    match path {
+        [k] => Some(*k),
+        _ => None,
+    }
 }
 
 // Whether the record of the path is there.
@@ -98,24 +126,18 @@ fn spawns_of(event: &Event) -> u32
     }
 }
 
-// Whether the thread of the path is the root, or a thread of the list spawned it.
+// Whether the thread of the path is a root, or a thread of the list spawned it.
 fn has_spawner(list: &[Record], path: &[u32]) -> bool
     requires order { InPathOrder (map read_record list.now) }
     requires few { event_total (parts_in list.now) < 2 ^ 32 }
     requires some { 0 < length path.now }
     ensures { IsTrue result ↔ HasSpawner (parts_in list.now) path.now }
 {
-    if is_root(path) {
+    let depth = path.len() - 1;
+    if depth == 0 {
         return true;
     }
-    let depth = path.len() - 1;
     has_spawn(list, &path[..depth], path[depth])
-}
-
-fn is_root(path: &[u32]) -> bool
-    ensures { IsTrue result ↔ (path.now ≡ 0 ∷ []) }
-{
-    path == [0].as_slice()
 }
 
 // Whether the list has a thread of the path with a k-th Spawn.

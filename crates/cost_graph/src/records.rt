@@ -26,8 +26,9 @@ pub(crate) struct Tables {
 impl Graph {
     /// The cost graph of the records of a job that has finished: a thread for each record, and a vertex for each event.
     ///
-    /// The root's record is there, each other record's parent has its Spawn and each Spawn its record, each Join
-    /// names a record, Start is just the first event and End just the last, and there are fewer than 2^32 events.
+    /// The paths of one part, those of the roots, are `0` to `r - 1` for some r of at least 1; each other record's parent
+    /// has its Spawn and each Spawn its record, each Join names a record, Start is just the first event and End just
+    /// the last, and there are fewer than 2^32 events.
     pub fn of_records(alloc: Global, records: &Records) -> Result<Graph, AllocError>
         requires { AreFinished (parts_in records.now) }
         ensures graph { IfOk result (IsGraphOf (parts_in records.now)) }

@@ -10,6 +10,12 @@ is_part_finished-requires-clause-small c =
     let few : c.are_few.result ≡ true = search rules in
     record_few c.list-list.result.now c.loop-one.one-index c.one-item.result c.loop-one-test.true c.one-item.is (c.are_few.ensures.0 few)
 
+pub returns-then-not-are_roots : goal.returns-then-not-are_roots
+returns-then-not-are_roots c =
+    let lacks : c.are_roots.result ≡ false = search rules in
+    let of_list : AreFinished (parts_in c.args.records.now) → AreFinished (parts_in c.list-list.result.now) = subst (λ l. AreFinished (parts_in l)) (sym c.list-list.ensures.value) in
+    (λ e. absurd (false≢true e), λ h. absurd (both_ways c.are_roots.result lacks (c.are_roots.ensures.1 (of_list h).roots)))
+
 pub returns-then-not-branch : goal.returns-then-not-branch
 returns-then-not-branch c =
     let rs = c.list-list.result.now in
@@ -28,6 +34,6 @@ pub returns : goal.returns
 returns c =
     let rs = c.list-list.result.now in
     let few : c.are_few.result ≡ true = search rules in
-    let root : c.is_there.result ≡ true = search rules in
-    let all = all_finished (parts_in rs) (c.are_few.ensures.0 few) (c.is_there.ensures.0 root) (each_at (parts_in rs) (λ t lt. c.loop-one.invariant t (omega (arith, lt, parts_length rs, c.loop-one-test.false)))) in
+    let rooted : c.are_roots.result ≡ true = search rules in
+    let all = all_finished (parts_in rs) (c.are_few.ensures.0 few) (c.are_roots.ensures.0 rooted) (each_at (parts_in rs) (λ t lt. c.loop-one.invariant t (omega (arith, lt, parts_length rs, c.loop-one-test.false)))) in
     (λ _. subst (λ l. AreFinished (parts_in l)) c.list-list.ensures.value all, λ _. refl)

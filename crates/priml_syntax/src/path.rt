@@ -9,7 +9,7 @@ use std::marker::Model;
 
 /// The name of a thread: the number of its root, and then for each spawn that leads to it the number of the
 /// child among those of its parent, from 0. It has 1 to 32 parts.
-#[derive(Drop)]
+#[derive(Debug, Drop)]
 pub struct Path {
     parts: Vec<u32>,
 }

@@ -1,4 +1,4 @@
-ghost use Rattle.std.specs.Prelude.{◌≡◌, ◌↔◌, ◌<◌, [], ◌∷◌, ◌++◌, length, IfOk, Err};
+ghost use Rattle.std.specs.Prelude.{◌≡◌, ◌↔◌, ◌<◌, [], ◌∷◌, ◌++◌, length, IsTrue, IfOk, Err};
 ghost use Rattle.std.specs.Ordering.{nat_cmp};
 ghost use Rattle.std.specs.Cmp.Lexicographic.{slice_cmp};
 ghost use Rattle.priml_syntax.specs.Paths.{IsPath, Precedes, child_path};
@@ -91,7 +91,8 @@ impl Path {
         requires { length self.now < 32 }
         ensures { IfOk result (λ p. p ≡ self.now ++ k ∷ []) }
     {
-        let mut parts = Vec::from_slice(alloc, &self.parts)?;
+        let mut parts = Vec::with_capacity(alloc, self.parts.len() + 1)?;
+        parts.extend_from_slice(&self.parts)?;
         parts.push(k)?;
         Ok(Path { parts })
     }
@@ -104,6 +105,13 @@ impl Path {
         ensures greater { (result ≡ Ordering.Greater) ↔ Precedes other.now self.now }
     {
         self.parts.as_slice().cmp(other.parts.as_slice())
+    }
+
+    /// Whether the two are the same path.
+    pub fn equals(&self, other: &Path) -> bool
+        ensures { IsTrue result ↔ (self.now ≡ other.now) }
+    {
+        self.parts.as_slice() == other.parts.as_slice()
     }
 
     /// The numbers of the path, the root's first; 1 to 32 of them.

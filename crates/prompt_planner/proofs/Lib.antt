@@ -8,3 +8,4 @@ pub mod Within
 pub mod OneCanonical
 pub mod SomeLanes
 pub mod SomePlan
+pub mod CanonicalPrompt

@@ -1,4 +1,4 @@
-ghost use Rattle.prompt_planner.specs.Laws.{OneCanonicalPlan, SomeCanonicalPlan};
+ghost use Rattle.prompt_planner.specs.Laws.{OneCanonicalPlan, SomeCanonicalPlan, CanonicalPlansArePrompt};
 
 /// One canonical plan, as a law: two lists of steps that are both the canonical plan of a graph are equal.
 pub fn one_canonical_plan()
@@ -9,4 +9,9 @@ pub fn one_canonical_plan()
 /// priorities of its threads.
 pub fn some_canonical_plan()
     ensures { SomeCanonicalPlan }
+{}
+
+/// A canonical plan is prompt, as a law: whatever lists of steps are the canonical plans of a graph without cycles, they are prompt.
+pub fn canonical_plans_are_prompt()
+    ensures { CanonicalPlansArePrompt }
 {}

@@ -5,5 +5,5 @@ mod lanes;
 mod laws;
 mod planner;
 
-pub use laws::{one_canonical_plan, some_canonical_plan};
+pub use laws::{canonical_plans_are_prompt, one_canonical_plan, some_canonical_plan};
 pub use planner::{plan, plan_by_lanes};

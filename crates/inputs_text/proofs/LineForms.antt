@@ -5,9 +5,10 @@ use Rattle.std.proofs.lemmas.Bool.Decides.{nat_tests}
 use Rattle.std.proofs.lemmas.List.Elements.{All-head, All-tail}
 use Rattle.std.proofs.lemmas.List.{take_all}
 use Rattle.std.proofs.Common.{length-drop}
+use Rattle.priml_io.specs.Lines.{is_blank}
 use Rattle.priml_io.specs.Words.{IsDigit}
 use Rattle.inputs_text.specs.PathText.{IsPathText}
-use Rattle.inputs_text.specs.InputLines.{is_blank, IsNumberText, AreNumbers, words_of, IsCut, Gives, IsInputLine, IsBadLine}
+use Rattle.inputs_text.specs.InputLines.{IsNumberText, AreNumbers, words_of, IsCut, Gives, IsInputLine, IsBadLine}
 use Rattle.inputs_text.proofs.Pairs.{pairs-one}
 use Rattle.inputs_text.proofs.PathForms.{path-begins, path-one}
 use Rattle.inputs_text.proofs.Numbers.{number-one}

@@ -5,12 +5,13 @@ use Rattle.std.specs.Int.{w64}
 use Rattle.std.specs.List.{list_all}
 use Rattle.std.proofs.lemmas.List.Elements.{All-nil, All-cons}
 use Rattle.priml_io.specs.Words.{value_of}
-use Rattle.priml_io.proofs.Decided.{le_or_not, equal_or_not, both_or_not, either_or_not, same_text_or_not, digits_or_not}
+use Rattle.priml_io.specs.Lines.{is_blank}
+use Rattle.priml_io.proofs.Decided.{le_or_not, equal_or_not, both_or_not, either_or_not, true_or_not, same_text_or_not, digits_or_not}
 use Rattle.priml_syntax.specs.Inputs.{IsNoneOf}
 use Rattle.inputs_text.specs.declared.inputs.InputFault.{InputFault}
 use Rattle.inputs_text.specs.declared.inputs.InputFault.TheVariants as fault
 use Rattle.inputs_text.specs.PathText.{Pairwise, IsPartText, IsPathText, between_dots}
-use Rattle.inputs_text.specs.InputLines.{is_blank, IsValue, IsNegated, IsNumberText, AreNumbers, words_of, IsBlankLine, IsComment, IsCut, IsInputLine, IsBadLine}
+use Rattle.inputs_text.specs.InputLines.{IsValue, IsNegated, IsNumberText, AreNumbers, words_of, IsComment, IsCut, IsInputLine, IsBadLine}
 use Rattle.inputs_text.specs.Inputs.{HasPath, IsInputs, IsFirstFault, LinesAreRead}
 use Rattle.inputs_text.proofs.PathForms.{path-refused}
 use Rattle.inputs_text.proofs.LineForms.{bad-uncut, bad-path, bad-numbers}
@@ -109,19 +110,13 @@ cut_or_none (b ∷ bs) = go (equal_or_not b 58) (cut_or_none bs) where
   go (inr n) (inl c) = inl (b ∷ c.0, c.1, record { is = ap (λ v. b ∷ v) c.2.is; first = All-cons (λ x. x ≢ 58) b c.0 n c.2.first })
   go (inr n) (inr none) = inr (All-cons (λ x. x ≢ 58) b bs n none)
 
-blank_or_not : (line : List ℕ) → IsBlankLine line ⊎ ¬ IsBlankLine line
-blank_or_not line = go (list_all is_blank line) refl where
-  go : (t : Bool) → list_all is_blank line ≡ t → IsBlankLine line ⊎ ¬ IsBlankLine line
-  go true e = inl e
-  go false e = inr (λ h. absurd (let k : false ≡ true = sym e ∙ h in cc))
-
 comment_or_not : (line : List ℕ) → IsComment line ⊎ ¬ IsComment line
 comment_or_not [] = inr (λ e. cc)
 comment_or_not (b ∷ bs) = elim (equal_or_not b 35) [ inl e ↦ inl (ap Some e) | inr n ↦ inr (λ e. n (let k : b ≡ 35 = cc in k)) ]
 
 -- what a line says, or that it says nothing right
 form_or_bad : (line : List ℕ) → ((form : Option (List ℕ × List ℤ)) × IsInputLine line form) ⊎ IsBadLine line
-form_or_bad line = go (either_or_not (blank_or_not line) (comment_or_not line)) (cut_or_none line) where
+form_or_bad line = go (either_or_not (true_or_not (list_all is_blank line)) (comment_or_not line)) (cut_or_none line) where
   given : ¬ IsInputLine line None → (path numbers : List ℕ) → IsCut line path numbers → ((p : List ℕ) × IsPathText path p) ⊎ ((p : List ℕ) → ¬ IsPathText path p) → ((ns : List ℤ) × AreNumbers numbers ns) ⊎ ((ns : List ℤ) → ¬ AreNumbers numbers ns) → ((form : Option (List ℕ × List ℤ)) × IsInputLine line form) ⊎ IsBadLine line
   given n path numbers c (inr none) ns = inr (bad-path line path numbers n c none)
   given n path numbers c (inl p) (inr none) = inr (bad-numbers line path numbers n c none)

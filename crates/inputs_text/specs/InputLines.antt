@@ -1,13 +1,10 @@
 -- The form of one line of the inputs: a path, a colon, and numbers.
-use Rattle.std.specs.Prelude.{◌≡◌, ◌≢◌, ◌⊎◌, ℕ, ℤ, pos, neg_ℤ, FitsSigned, Bool, ◌||◌, ◌==◌, not, List, ◌∷◌, ◌++◌, length, filter, All, slice_get, IsTrue, Option, None, Some}
-use Rattle.std.specs.List.{slice_split, list_all}
+use Rattle.std.specs.Prelude.{◌≡◌, ◌≢◌, ◌⊎◌, ℕ, ℤ, pos, neg_ℤ, FitsSigned, Bool, ◌==◌, not, List, ◌∷◌, ◌++◌, length, filter, All, slice_get, Option, None, Some}
+use Rattle.std.specs.List.{slice_split}
 use Rattle.std.specs.Int.{w64}
+use Rattle.priml_io.specs.Lines.{is_blank, AreBlank}
 use Rattle.priml_io.specs.Words.{IsDigits, value_of}
 use Rattle.inputs_text.specs.PathText.{Pairwise, IsPathText}
-
--- a space, a tab or a carriage return
-abbrev pub is_blank : ℕ → Bool
-is_blank b = b == 32 || b == 9 || b == 13
 
 -- digits, of this number
 abbrev pub IsValue : List ℕ → ℤ → Type 0
@@ -33,10 +30,6 @@ words_of text = filter is_some_text (slice_split is_blank text)
 abbrev pub AreNumbers : List ℕ → List ℤ → Type 0
 AreNumbers text numbers = Pairwise IsNumberText (words_of text) numbers
 
--- nothing but blanks
-abbrev pub IsBlankLine : List ℕ → Type 0
-IsBlankLine line = IsTrue (list_all is_blank line)
-
 -- the first byte is `#`
 abbrev pub IsComment : List ℕ → Type 0
 IsComment line = slice_get line 0 ≡ Some 35
@@ -56,7 +49,7 @@ pub record Gives (line path : List ℕ) (numbers : List ℤ) : Type 0 where
 
 -- a line of the inputs: it is blank or a comment and gives nothing, or it gives numbers to a path
 abbrev pub IsInputLine : List ℕ → Option (List ℕ × List ℤ) → Type 0
-IsInputLine line None = IsBlankLine line ⊎ IsComment line
+IsInputLine line None = AreBlank line ⊎ IsComment line
 IsInputLine line (Some given) = Gives line given.0 given.1
 
 -- the line is none of the inputs

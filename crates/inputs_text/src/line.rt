@@ -1,12 +1,11 @@
 //! One line of the inputs.
 ghost use Rattle.std.specs.Prelude.{◌≡◌, ◌≢◌, List, ℕ, ℤ, None, All, IfOk, MatchOption, MatchBool};
-ghost use Rattle.std.specs.List.{list_all};
 ghost use Rattle.inputs_text.specs.PathText.{IsPathText};
-ghost use Rattle.inputs_text.specs.InputLines.{IsValue, IsNegated, is_blank as blank, IsNumberText, AreNumbers, IsInputLine, IsCut};
+ghost use Rattle.inputs_text.specs.InputLines.{IsValue, IsNegated, IsNumberText, AreNumbers, IsInputLine, IsCut};
 ghost use Rattle.inputs_text.specs.Forms.{HasForm};
 
 use crate::path::read_path;
-use priml_io::{capped_value, is_digits};
+use priml_io::{are_blank, capped_value, is_blank, is_digits};
 use priml_syntax::Path;
 use std::alloc::{AllocError, Global};
 
@@ -51,18 +50,6 @@ fn says_nothing(line: &[u8]) -> bool
         return true;
     }
     are_blank(line)
-}
-
-fn are_blank(bytes: &[u8]) -> bool
-    ensures { result ≡ list_all blank bytes.now }
-{
-    bytes.iter().all(|b| is_blank(*b))
-}
-
-fn is_blank(byte: u8) -> bool
-    ensures { result ≡ blank byte }
-{
-    byte == b' ' || byte == b'\t' || byte == b'\r'
 }
 
 /// What stands before the first colon, and what after it; None where there is no colon.

@@ -1,10 +1,13 @@
 -- Each of these facts holds or does not.
-use Rattle.std.proofs.Common.{◌≡◌, ◌≢◌, ℕ, ◌≤◌, ◌⊎◌, List, [], ◌∷◌, length, take, drop, codes, true, false, All, refl, arith, inl, inr}
+use Rattle.std.proofs.Common.{◌≡◌, ◌≢◌, ℕ, ◌≤◌, ◌⊎◌, List, [], ◌∷◌, length, take, drop, codes, Bool, true, false, IsTrue, All, refl, arith, inl, inr}
+use Rattle.std.specs.List.{list_all}
+use Rattle.std.proofs.lemmas.Bool.{false≢true}
 use Rattle.std.proofs.lemmas.List.Elements.{All-nil, All-cons, All-head, All-tail}
 use Rattle.std.proofs.lemmas.Bool.Decides.{leb_tells, eqb_tells}
 use Rattle.priml_io.specs.Words.{IsDigit, IsDigits}
-use Rattle.priml_io.specs.Sections.{IsMarked, IsBlank, IsPadded}
-use Rattle.priml_io.proofs.SectionsLemmas.{padded, unpadded}
+use Rattle.priml_io.specs.Lines.{is_blank}
+use Rattle.priml_io.specs.Sections.{IsMarked, IsPadded}
+use Rattle.priml_io.proofs.SectionsLemmas.{padded, not_padded, unpadded}
 
 pub le_or_not : (a b : ℕ) → (a ≤ b) ⊎ ¬ (a ≤ b)
 le_or_not a b = elim (leb_tells a b) [ inl e ↦ inl e.1 | inr e ↦ inr (λ h. let l = e.1 in omega (arith, l, h)) ]
@@ -43,16 +46,17 @@ same_text_or_not (x ∷ xs) (y ∷ ys) =
 pub digits_or_not : (word : List ℕ) → IsDigits word ⊎ ¬ IsDigits word
 digits_or_not word = both_or_not (le_or_not 1 (length word)) (all_or_not IsDigit (λ b. both_or_not (le_or_not 48 b) (le_or_not b 57)) word)
 
-blank_or_not : (b : ℕ) → IsBlank b ⊎ ¬ IsBlank b
-blank_or_not b = either_or_not (equal_or_not b 32) (either_or_not (equal_or_not b 9) (equal_or_not b 13))
+pub true_or_not : (t : Bool) → IsTrue t ⊎ ¬ IsTrue t
+true_or_not true = inl refl
+true_or_not false = inr false≢true
 
 pub padded_or_not : (start line : List ℕ) → IsPadded start line ⊎ ¬ IsPadded start line
 padded_or_not start line =
     elim (same_text_or_not (take (length start) line) start) [
       | inr n ↦ inr (unpadded start line n)
-      | inl e ↦ elim (all_or_not IsBlank blank_or_not (drop (length start) line)) [
-        | inl b ↦ inl (padded start line true e b)
-        | inr n ↦ inr (padded start line false e n)
+      | inl e ↦ elim (true_or_not (list_all is_blank (drop (length start) line))) [
+        | inl b ↦ inl (padded start line e b)
+        | inr n ↦ inr (not_padded start line e n)
       ]
     ]
 

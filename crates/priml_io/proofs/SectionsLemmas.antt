@@ -4,11 +4,13 @@ use Rattle.std.proofs.Math.Seq.{take-append_seam, drop-append_seam}
 use Rattle.std.proofs.lemmas.List.{take-append-drop, take_all}
 use Rattle.std.proofs.Common.{drop-cons, add-one, length-drop, MatchBool, ◌==◌}
 use Rattle.std.specs.Borrow.{Bor}
+use Rattle.std.specs.List.{list_all}
+use Rattle.std.proofs.lemmas.Bool.{false≢true}
 use Rattle.std.proofs.lemmas.Bool.Decides.{nat_tests}
 use Rattle.std.proofs.lemmas.Grind.{common_steps}
 use Rattle.std.proofs.lemmas.List.Elements.{All-append, All-cons, All-nil}
-use Rattle.priml_io.specs.Lines.{lines}
-use Rattle.priml_io.specs.Sections.{IsMarked, IsRow, IsWhole, IsPart, IsBlank, IsPadded, bytes_of}
+use Rattle.priml_io.specs.Lines.{is_blank, AreBlank, lines}
+use Rattle.priml_io.specs.Sections.{IsMarked, IsRow, IsWhole, IsPart, IsPadded, bytes_of}
 use Rattle.priml_io.proofs.LinesLemmas.{lines-append, lines-row}
 
 -- what was passed of the text, line by line: no line of it is marked
@@ -115,10 +117,16 @@ pub rest-none : (text : List ℕ) (n : ℕ) → n ≡ length text → take (leng
 rest-none text n e = grind (arith, common_steps)
 
 -- a line that begins with a start is padded where what follows is blank, and not else
-pub padded : (start line : List ℕ) (r : Bool) → take (length start) line ≡ start → MatchBool r (All IsBlank (drop (length start) line)) (¬ All IsBlank (drop (length start) line)) → MatchBool r (IsPadded start line) (¬ IsPadded start line)
-padded start line true e blank = (drop (length start) line, sym (take-append-drop (length start) line) ∙ ap (λ v. v ++ drop (length start) line) e, blank)
-padded start line false e n =
+pub padded : (start line : List ℕ) → take (length start) line ≡ start → AreBlank (drop (length start) line) → IsPadded start line
+padded start line e blank = (drop (length start) line, sym (take-append-drop (length start) line) ∙ ap (λ v. v ++ drop (length start) line) e, blank)
+
+pub not_padded : (start line : List ℕ) → take (length start) line ≡ start → ¬ AreBlank (drop (length start) line) → ¬ IsPadded start line
+not_padded start line e n =
     λ p. n (rw (p.1, drop-append_seam start p.0) p.2)
+
+pub padding_told : (start line : List ℕ) (r : Bool) → take (length start) line ≡ start → r ≡ list_all is_blank (drop (length start) line) → MatchBool r (IsPadded start line) (¬ IsPadded start line)
+padding_told start line true e tells = padded start line e (sym tells)
+padding_told start line false e tells = not_padded start line e (λ h. false≢true (tells ∙ h))
 
 pub unpadded : (start line : List ℕ) → ¬ (take (length start) line ≡ start) → ¬ IsPadded start line
 unpadded start line n p = n (rw (p.1, take-append_seam start p.0) refl)

@@ -10,6 +10,11 @@ counted n = min (n + 1) (2 ^ 64 - 1)
 abbrev pub Rose : ℕ → ℕ → Type 0
 Rose before now = counted before ≤ now
 
+-- what a call does to a count of faults that counts nothing else: it stays where the call went well, and is one more where it failed
+abbrev pub Counts : {T E : Type 0} → ℕ → ℕ → Result T E → Type 0
+Counts before now (Ok _) = now ≡ before
+Counts before now (Err _) = now ≡ counted before
+
 -- a count of faults never falls, and a call fails only where it rose
 pub record HasCause {T E : Type 0} (before now : ℕ) (result : Result T E) : Type 0 where
   pub later : before ≤ now

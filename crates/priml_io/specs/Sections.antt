@@ -2,7 +2,7 @@
 use Rattle.std.specs.Prelude.{◌≡◌, ◌≢◌, ℕ, ◌+◌, ◌⊎◌, List, [], ◌∷◌, ◌++◌, length, take, All, codes, None, Some, unwrap_or}
 use Rattle.std.specs.declared.option.Option.{Option}
 use Rattle.std.specs.Borrow.{Bor}
-use Rattle.priml_io.specs.Lines.{lines}
+use Rattle.priml_io.specs.Lines.{AreBlank, lines}
 use Rattle.priml_io.specs.declared.sections.SectionFault.{SectionFault}
 use Rattle.priml_io.specs.declared.sections.SectionFault.TheVariants as fault
 
@@ -10,13 +10,9 @@ use Rattle.priml_io.specs.declared.sections.SectionFault.TheVariants as fault
 abbrev pub IsMarked : List ℕ → Type 0
 IsMarked text = take 3 text ≡ codes "==="
 
--- a space, a tab or a carriage return
-abbrev pub IsBlank : ℕ → Type 0
-IsBlank b = (b ≡ 32) ⊎ ((b ≡ 9) ⊎ (b ≡ 13))
-
 -- a text and then blanks
 abbrev pub IsPadded : List ℕ → List ℕ → Type 0
-IsPadded text line = (blanks : List ℕ) × (line ≡ text ++ blanks) × All IsBlank blanks
+IsPadded text line = (blanks : List ℕ) × (line ≡ text ++ blanks) × AreBlank blanks
 
 -- the line that begins the section of this name: the mark, the name, and blanks
 abbrev pub IsHeading : List ℕ → List ℕ → Type 0

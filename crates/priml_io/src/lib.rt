@@ -1,6 +1,7 @@
 //! Bytes in and bytes out: sources and sinks whose faults are counted, and reading and writing the whole.
 #![tactic(auto)]
 
+mod blanks;
 mod ends;
 mod laws;
 mod memory;
@@ -10,6 +11,7 @@ mod steady;
 mod whole;
 mod words;
 
+pub use blanks::{are_blank, is_blank};
 pub use ends::{Failed, Sink, Source};
 pub use laws::{all_words_are_read, every_input_is_cut};
 pub use memory::{MemSink, MemSource};

@@ -1,6 +1,8 @@
 ghost use Rattle.std.specs.Prelude.{◌≡◌, ◌≢◌, ◌+◌, ◌<◌, ◌≤◌, ◌++◌, ◌⊎◌, ℕ, List, [], length, take, slice_index, All, IfOk, IfErr, MatchBool};
 ghost use Rattle.priml_io.specs.Lines.{lines};
-ghost use Rattle.priml_io.specs.Sections.{bytes_of, IsBlank, IsPadded, IsRow, IsPart, IsMarked, Cuts, HasSectionFault, CutsOneWay};
+ghost use Rattle.priml_io.specs.Sections.{bytes_of, IsPadded, IsRow, IsPart, IsMarked, Cuts, HasSectionFault, CutsOneWay};
+
+use crate::blanks::are_blank;
 
 /// The texts of an input: the program, and the bodies of the sections that stand in it.
 #[derive(Clone, Copy, Debug, PartialEq, Eq)]
@@ -142,27 +144,4 @@ fn begins_with(text: &[u8], start: &[u8]) -> bool
         return false;
     }
     &text[..start.len()] == start
-}
-
-fn are_blank(bytes: &[u8]) -> bool
-    ensures { MatchBool result (All IsBlank bytes.now) (¬ All IsBlank bytes.now) }
-{
-    for b in bytes {
-        if !is_blank(*b) {
-            return false;
-        }
-    }
-    true
-}
-
-fn is_blank(b: u8) -> bool
-    ensures { MatchBool result (IsBlank b) (¬ IsBlank b) }
-{
-    if b == b' ' {
-        return true;
-    }
-    if b == b'\t' {
-        return true;
-    }
-    b == b'\r'
 }

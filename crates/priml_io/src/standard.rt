@@ -1,12 +1,28 @@
-ghost use Rattle.std.specs.Prelude.{◌≡◌, ◌<◌, length, None, IfOk};
+ghost use Rattle.std.specs.Prelude.{◌≡◌, ◌<◌, length, None, Ok, IsOk, IsErr, IsNone, IfOk, IfSome};
 ghost use Rattle.std.specs.Io.{ReadsAtMost, WritesAtMost};
 ghost use Rattle.std.specs.Io.KnownBytes.{ReadConsumes, WriteAppends};
-ghost use Rattle.priml_io.specs.Ends.{HasCause, PutGrows};
+ghost use Rattle.priml_io.specs.Ends.{HasCause, PutGrows, Counts};
 
 use crate::ends::{Failed, Sink, Source};
 use std::io::{Read, Write};
 
-/// A reader of std as a source. Each error is a fault. It tells no bytes.
+// How many bytes a call of std moved, or where it moved none for an error a fault, which is counted.
+fn or_fault(faults: &mut u64, moved: Option<usize>) -> Result<usize, Failed>
+    ensures some { IfSome moved (λ n. result ≡ Ok n) }
+    ensures none { IsNone moved → IsErr result }
+    ensures cause { HasCause faults.old faults.new result }
+    ensures counts { Counts faults.old faults.new result }
+{
+    match moved {
+        Some(count) => Ok(count),
+        None => {
+            *faults = faults.saturating_add(1);
+            Err(Failed)
+        }
+    }
+}
+
+/// A reader of std as a source. Each error is a fault, and nothing else is, so the end is none. It tells no bytes.
 #[derive(Drop)]
 pub struct StdSource<R> {
     reader: R,
@@ -31,19 +47,14 @@ impl<R: Read> Source for StdSource<R> {
         ensures bound { ReadsAtMost result buf.new }
         ensures bytes { ReadConsumes (R.remaining self.old.reader) (R.remaining self.new.reader) result buf.new }
         ensures cause { HasCause self.old.faults self.new.faults result }
+        ensures counts { Counts self.old.faults self.new.faults result }
     {
-        match self.reader.read(buf) {
-            Ok(count) => Ok(count),
-            Err(_) => {
-                self.faults = self.faults.saturating_add(1);
-                Err(Failed)
-            }
-        }
+        or_fault(&mut self.faults, self.reader.read(buf).ok())
     }
 }
 
 /// A writer of std as a sink. Each error is a fault, and so is a write that takes nothing of a piece that is not empty.
-/// It tells no bytes.
+/// Where there is nothing to write it asks the writer for nothing. It tells no bytes.
 #[derive(Drop)]
 pub struct StdSink<W> {
     writer: W,
@@ -67,15 +78,17 @@ impl<W: Write> Sink for StdSink<W> {
     fn put(&mut self, piece: &[u8]) -> Result<usize, Failed>
         ensures bound { WritesAtMost result piece.now }
         ensures some { IfOk result (λ n. 0 < length piece.now → 0 < n) }
+        ensures nothing { length piece.now ≡ 0 → IsOk result }
         ensures bytes { WriteAppends (W.contents self.old.writer) (W.contents self.new.writer) result piece.now }
         ensures cause { HasCause self.old.faults self.new.faults result }
+        ensures counts { Counts self.old.faults self.new.faults result }
     {
+        if piece.is_empty() {
+            return Ok(0);
+        }
         match self.writer.write(piece) {
-            Ok(count) if count > 0 || piece.is_empty() => Ok(count),
-            _ => {
-                self.faults = self.faults.saturating_add(1);
-                Err(Failed)
-            }
+            Ok(count) if count > 0 => or_fault(&mut self.faults, Some(count)),
+            _ => or_fault(&mut self.faults, None),
         }
     }
 }
@@ -105,6 +118,53 @@ mod tests {
         fn flush(&mut self) -> io::Result<()> {
             Ok(())
         }
+    }
+
+    /// A reader that gives an error at its first call, and then the byte 7 at each.
+    #[derive(Drop)]
+    struct Late {
+        is_ready: bool,
+    }
+
+    impl Read for Late {
+        fn read(&mut self, buf: &mut [u8]) -> io::Result<usize> {
+            if !self.is_ready {
+                self.is_ready = true;
+                return Err(io::Error::from(io::ErrorKind::Interrupted));
+            }
+            if buf.is_empty() {
+                return Ok(0);
+            }
+            buf[0] = 7;
+            Ok(1)
+        }
+    }
+
+    #[test]
+    fn a_long_piece_and_a_late_reader(rt: HostRuntime) -> Result<(), Fail> {
+        let mut piece = Vec::new(rt.alloc());
+        for i in 0..200_000u32 {
+            piece.push((i % 251) as u8)?;
+        }
+        let mut sink = StdSink::new(Vec::new(rt.alloc()));
+        assert_eq!(rt; write_all(&mut sink, &piece), Ok(()));
+        assert_eq!(rt; sink.faults, 0);
+        let mut source = StdSource::new(sink.writer.as_slice());
+        match read_all(rt.alloc(), &mut source, 200_000) {
+            Ok(bytes) => assert!(rt; bytes.as_slice() == piece.as_slice()),
+            Err(e) => assert_eq!(rt; Some(e), None),
+        }
+        assert_eq!(rt; source.take(&mut [0; 4]), Ok(0));
+        assert_eq!(rt; source.faults, 0);
+
+        let mut late = StdSource::new(Late { is_ready: false });
+        let mut buf = [0u8; 3];
+        assert_eq!(rt; late.take(&mut buf), Err(Failed));
+        assert_eq!(rt; late.faults, 1);
+        assert_eq!(rt; late.take(&mut buf), Ok(1));
+        assert_eq!(rt; late.faults, 1);
+        assert_eq!(rt; buf, [7, 0, 0]);
+        Ok(())
     }
 
     #[test]

@@ -265,14 +265,13 @@ fn is_digit(b: u8) -> bool
 
 /// The value of decimal digits, or the last value of u64 where it is greater.
 pub fn capped_value(word: &[u8]) -> u64
-    requires { IsDigits word.now }
     ensures { result ≡ min (value_of word.now) (2 ^ 64 - 1) }
 {
     let mut value = 0u64;
     for b in word {
         value = value
             .saturating_mul(10)
-            .saturating_add(u64::from(*b - b'0'));
+            .saturating_add(u64::from(b.saturating_sub(b'0')));
     }
     value
 }

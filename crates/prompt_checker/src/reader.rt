@@ -3,7 +3,7 @@ ghost use Rattle.std.specs.List.{All, Contains};
 ghost use Rattle.cost_graph.specs.Graph.{vertex_total};
 ghost use Rattle.priml_io.specs.Lines.{lines};
 ghost use Rattle.inputs_text.specs.PathText.{Pairwise};
-ghost use Rattle.inputs_text.specs.InputLines.{is_blank as blank, words_of};
+ghost use Rattle.inputs_text.specs.InputLines.{words_of};
 ghost use Rattle.prompt_checker.specs.Read.{lists, steps_of};
 ghost use Rattle.prompt_checker.specs.ScheduleText.{IsStepLine, IsBadLine, IsBadWord, IsVertexText, AreStepLines, HasFault, ReadsOneWay};
 ghost use Rattle.prompt_checker.specs.Looks.{IsLook, StopsAt};
@@ -11,7 +11,7 @@ ghost use Rattle.prompt_checker.specs.Looks.{IsLook, StopsAt};
 use crate::schedule::Schedule;
 use cost_graph::Graph;
 use inputs_text::{cut, read_part, read_path};
-use priml_io::next_line;
+use priml_io::{is_blank, next_line};
 use priml_syntax::Path;
 use std::alloc::{AllocError, Global};
 
@@ -125,12 +125,6 @@ fn all_found(alloc: Global, looks: &Vec<Option<u32>>) -> Result<Option<Vec<u32>>
         step.push(vertex)?;
     }
     Ok(Some(step))
-}
-
-fn is_blank(byte: u8) -> bool
-    ensures { result ≡ blank byte }
-{
-    byte == b' ' || byte == b'\t' || byte == b'\r'
 }
 
 // The path and the number of a vertex, from its text; None where that has another form.

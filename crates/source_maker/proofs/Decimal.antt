@@ -7,11 +7,12 @@ use Rattle.std.proofs.lemmas.Bool.Decides.{nat_tests}
 use Rattle.std.proofs.lemmas.Fmt.{decimal_by_steps}
 use Rattle.std.proofs.lemmas.List.Folds.{list_all-append}
 use Rattle.std.proofs.lemmas.List.Sums.{fold-append}
-use Rattle.source_tokens.specs.Lexemes.{is_digit, is_number, value}
+use Rattle.priml_io.specs.Words.{value_of}
+use Rattle.source_tokens.specs.Lexemes.{is_digit, is_number}
 
 pub record Writes (n : ℕ) (bs : List ℕ) : Type 0 where
   pub formed : is_number bs ≡ true
-  pub is : value bs ≡ n
+  pub is : value_of bs ≡ n
 
 digit_formed : (d : ℕ) → d < 10 → is_digit (48 + d) ≡ true
 digit_formed d l = grind (arith, nat_tests)

@@ -5,6 +5,7 @@ use Rattle.std.specs.List.{prefix_len}
 use Rattle.std.specs.Cmp.Lexicographic.{pointwise, same_text, other_text}
 use Rattle.std.proofs.lemmas.Bool.{cases_eq, cases_lt, both_ways}
 use Rattle.std.proofs.lemmas.List.{take-append-drop, length-append}
+use Rattle.priml_io.specs.Words.{value_of}
 use Rattle.source_tokens.specs.declared.token.Word.{Word}
 use Rattle.source_tokens.specs.declared.token.Word.TheVariants as w
 use Rattle.source_tokens.specs.declared.token.Sign.{Sign}
@@ -14,7 +15,7 @@ use Rattle.source_tokens.specs.declared.token.Kind.TheVariants as k
 use Rattle.source_tokens.specs.declared.token.Token.{Token}
 use Rattle.source_tokens.specs.declared.token.Stop.{Stop}
 use Rattle.source_tokens.specs.declared.token.Stop.TheVariants as stop
-use Rattle.source_tokens.specs.Lexemes.{begins, is_word, is_number, is_part, is_digit, begins_word, value, word_spelling, sign_spelling, IsLongest, BeginsNone}
+use Rattle.source_tokens.specs.Lexemes.{begins, is_word, is_number, is_part, is_digit, begins_word, word_spelling, sign_spelling, IsLongest, BeginsNone}
 use Rattle.source_tokens.specs.Lexes.{IsName, Spells, word, sign, number, old_name, new_name, opens, open_behind, place, Lexes, done, bad_byte, bad_number, too_deep, next}
 use Rattle.source_tokens.specs.Forms.{IsSignAt}
 use Rattle.source_tokens.specs.Laws.{HasTokens}
@@ -159,7 +160,7 @@ is_in_signs s.Colon = (17, refl)
 -- what stands at the front of some bytes
 data Front (known : List (List ℕ)) (bs : List ℕ) : Type 0 where
   token : (lexeme rest : List ℕ) → bs ≡ lexeme ++ rest → IsLongest lexeme rest → Written known lexeme → Front known bs
-  large : (lexeme rest : List ℕ) → bs ≡ lexeme ++ rest → IsLongest lexeme rest → IsTrue (is_number lexeme) → 2 ^ 63 ≤ value lexeme → Front known bs
+  large : (lexeme rest : List ℕ) → bs ≡ lexeme ++ rest → IsLongest lexeme rest → IsTrue (is_number lexeme) → 2 ^ 63 ≤ value_of lexeme → Front known bs
   nothing : BeginsNone bs → Front known bs
 
 module _ (known : List (List ℕ)) (b : ℕ) (tail : List ℕ) where
@@ -176,15 +177,15 @@ module _ (known : List (List ℕ)) (b : ℕ) (tail : List ℕ) where
   number_there h = by (prefix_len is_digit (b ∷ tail)) refl
     where
       by : (n : ℕ) → n ≡ prefix_len is_digit (b ∷ tail) → Front known (b ∷ tail)
-      by n e = sized (cases_lt (value (take n (b ∷ tail))) (2 ^ 63))
+      by n e = sized (cases_lt (value_of (take n (b ∷ tail))) (2 ^ 63))
         where
           digits : IsTrue (is_number (take n (b ∷ tail)))
           digits = number_front (b ∷ tail) n b tail refl h e
 
-          sized : (value (take n (b ∷ tail)) < 2 ^ 63) ⊎ (2 ^ 63 ≤ value (take n (b ∷ tail))) → Front known (b ∷ tail)
+          sized : (value_of (take n (b ∷ tail)) < 2 ^ 63) ⊎ (2 ^ 63 ≤ value_of (take n (b ∷ tail))) → Front known (b ∷ tail)
           sized (inl small) =
               token (take n (b ∷ tail)) (drop n (b ∷ tail)) (parts n) (number_longest (b ∷ tail) n b tail refl h e)
-              (record { kind = k.Number (value (take n (b ∷ tail))); later = known; spells = number digits small refl refl })
+              (record { kind = k.Number (value_of (take n (b ∷ tail))); later = known; spells = number digits small refl refl })
           sized (inr big) = large (take n (b ∷ tail)) (drop n (b ∷ tail)) (parts n) (number_longest (b ∷ tail) n b tail refl h e) digits big
 
   sign_there : begins_word b ≡ false → is_digit b ≡ false → Front known (b ∷ tail)

@@ -1,4 +1,3 @@
-pub mod Digits
 pub mod EveryText
 pub mod Gaps
 pub mod Lawful

@@ -1,10 +1,11 @@
 -- A text has one list of tokens, one list of names and one end.
 use Rattle.std.proofs.Common.{◌≡◌, ℕ, ◌^◌, ◌≤◌, ◌<◌, List, [], ◌∷◌, ◌++◌, refl, sym, ap, subst, ◌∙◌, arith}
 use Rattle.std.specs.Prelude.{IsTrue}
+use Rattle.priml_io.specs.Words.{value_of}
 use Rattle.source_tokens.specs.declared.token.Kind.{Kind}
 use Rattle.source_tokens.specs.declared.token.Token.{Token}
 use Rattle.source_tokens.specs.declared.token.Stop.{Stop}
-use Rattle.source_tokens.specs.Lexemes.{begins, is_number, value, IsLexeme, of_digits, IsLongest}
+use Rattle.source_tokens.specs.Lexemes.{begins, is_number, IsLexeme, of_digits, IsLongest}
 use Rattle.source_tokens.specs.Lexes.{IsDistinct, Spells, opens, open_behind, place, Lexes, done, bad_byte, bad_number, too_deep, next, IsLexed}
 use Rattle.source_tokens.proofs.Longest.{nil_no_lexeme}
 use Rattle.source_tokens.proofs.Spelled.{spelled, spelled_small, spelled_once, spelled_distinct}
@@ -51,7 +52,7 @@ moved {total} {more} {names} {end} depth k l later others rest left p q r h =
 
 -- the digits of a number that is too large write no token
 no_small : {known names : List (List ℕ)} {kind : Kind} (a b r s bs : List ℕ) → bs ≡ a ++ r → bs ≡ b ++ s → IsLongest a r → IsLongest b s
-    → IsTrue (is_number a) → 2 ^ 63 ≤ value a → Spells known b kind names → ⊥
+    → IsTrue (is_number a) → 2 ^ 63 ≤ value_of a → Spells known b kind names → ⊥
 no_small {known} {names} {kind} a b r s bs e f longest_a longest_b digits large spells =
     let one = longest_once a b r s (sym e ∙ f) (of_digits digits) (spelled spells) longest_a longest_b in
     spelled_small a (subst (λ z. Spells known z kind names) (sym one.0) spells) digits large

@@ -5,13 +5,14 @@ use Rattle.std.specs.List.{list_all}
 use Rattle.std.proofs.lemmas.Bool.{both_ways, and_parts, false≢true}
 use Rattle.std.proofs.lemmas.List.{append-nil}
 use Rattle.std.specs.Cmp.Lexicographic.{other_text}
+use Rattle.priml_io.specs.Words.{value_of}
 use Rattle.source_tokens.specs.declared.token.Word.{Word}
 use Rattle.source_tokens.specs.declared.token.Word.TheVariants as w
 use Rattle.source_tokens.specs.declared.token.Sign.{Sign}
 use Rattle.source_tokens.specs.declared.token.Sign.TheVariants as s
 use Rattle.source_tokens.specs.declared.token.Kind.{Kind}
 use Rattle.source_tokens.specs.declared.token.Kind.TheVariants as k
-use Rattle.source_tokens.specs.Lexemes.{is_word, is_number, is_digit, is_part, begins_word, value, word_spelling, sign_spelling, IsLexeme, of_word, of_digits, of_sign}
+use Rattle.source_tokens.specs.Lexemes.{is_word, is_number, is_digit, is_part, begins_word, word_spelling, sign_spelling, IsLexeme, of_word, of_digits, of_sign}
 use Rattle.source_tokens.specs.Lexes.{IsDistinct, Spells, word, sign, number, old_name, new_name}
 use Rattle.source_tokens.proofs.Longest.{digit_no_word}
 use Rattle.source_tokens.proofs.Signs.{sign_no_word, sign_no_number}
@@ -94,7 +95,7 @@ spelled (old_name id name _ _ _) = of_word name.formed
 spelled (new_name name _ _ _) = of_word name.formed
 
 -- digits that write a token have a value below two to the 63
-pub spelled_small : {known names : List (List ℕ)} {kind : Kind} (bs : List ℕ) → Spells known bs kind names → is_number bs ≡ true → 2 ^ 63 ≤ value bs → ⊥
+pub spelled_small : {known names : List (List ℕ)} {kind : Kind} (bs : List ℕ) → Spells known bs kind names → is_number bs ≡ true → 2 ^ 63 ≤ value_of bs → ⊥
 spelled_small bs (word v e _ _) h large = no_word_number bs (formed bs v e) h
 spelled_small bs (sign x e _ _) h large = no_number_sign bs x e h
 spelled_small bs (number _ small _ _) h large = omega arith

@@ -2,13 +2,14 @@
 use Rattle.std.proofs.Common.{◌≡◌, ℕ, ◌-◌, ◌^◌, ◌≤◌, ◌<◌, List, [], ◌∷◌, ◌++◌, length, take, drop, refl, sym, ap, subst, ◌∙◌, append_assoc, take-append-drop, arith}
 use Rattle.std.specs.Prelude.{IsTrue}
 use Rattle.std.proofs.lemmas.List.{append-nil}
+use Rattle.priml_io.specs.Words.{value_of}
 use Rattle.source_tokens.specs.declared.token.Kind.{Kind}
 use Rattle.source_tokens.specs.declared.token.Token.{Token}
 use Rattle.source_tokens.specs.declared.token.Stop.{Stop}
 use Rattle.source_tokens.specs.declared.token.Stop.TheVariants as stop
 use Rattle.source_tokens.specs.declared.form.Form.{Form}
 use Rattle.source_tokens.specs.declared.form.Form.TheVariants as f
-use Rattle.source_tokens.specs.Lexemes.{begins, is_number, value, IsLongest, BeginsNone}
+use Rattle.source_tokens.specs.Lexemes.{begins, is_number, IsLongest, BeginsNone}
 use Rattle.source_tokens.specs.Lexes.{Spells, opens, open_behind, Lexes, done, bad_byte, bad_number, too_deep, next, IsLexed}
 use Rattle.source_tokens.specs.Forms.{IsForm}
 use Rattle.source_tokens.specs.Names.{IsTooLarge}
@@ -20,7 +21,7 @@ token at kind = record { at = at; kind = kind }
 abbrev Whole : List ℕ → ℕ → ℕ → List (List ℕ) → List ℕ → List Token → Type 0
 Whole text total depth known rest tokens = (ts : List Token) (ns : List (List ℕ)) (end : Stop) → Lexes total depth known rest ts ns end → IsLexed text (tokens ++ ts) ns end
 
-too_large : (form : Form) (lexeme : List ℕ) → IsForm form lexeme → IsTooLarge form lexeme → IsTrue (is_number lexeme) × (2 ^ 63 ≤ value lexeme)
+too_large : (form : Form) (lexeme : List ℕ) → IsForm form lexeme → IsTooLarge form lexeme → IsTrue (is_number lexeme) × (2 ^ 63 ≤ value_of lexeme)
 too_large f.Number lexeme formed large = (formed, large)
 too_large f.Word lexeme formed large = absurd large
 too_large (f.Sign s) lexeme formed large = absurd large

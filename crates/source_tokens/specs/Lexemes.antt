@@ -1,5 +1,5 @@
 -- The forms of tokens: separators, words, numbers, signs, and the place where a token begins.
-use Rattle.std.specs.Prelude.{◌≡◌, ℕ, ◌+◌, ◌-◌, ◌*◌, List, [], ◌∷◌, ◌++◌, Bool, false, not, ◌||◌, ◌&&◌, ◌==◌, nat_le, fold, codes, if◌then◌else◌, IsTrue}
+use Rattle.std.specs.Prelude.{◌≡◌, ℕ, ◌+◌, ◌-◌, List, [], ◌∷◌, ◌++◌, Bool, false, not, ◌||◌, ◌&&◌, ◌==◌, nat_le, fold, codes, if◌then◌else◌, IsTrue}
 use Rattle.std.specs.List.{list_all}
 use Rattle.source_tokens.specs.declared.token.Word.{Word}
 use Rattle.source_tokens.specs.declared.token.Word.TheVariants as w
@@ -48,10 +48,6 @@ is_word (b ∷ bs) = begins_word b && list_all is_part bs
 abbrev pub is_number : List ℕ → Bool
 is_number [] = false
 is_number (b ∷ bs) = is_digit b && list_all is_digit bs
-
--- the number that digits write in base ten
-abbrev pub value : List ℕ → ℕ
-value bs = fold (λ n b. 10 * n + (b - 48)) 0 bs
 
 -- the bytes of a reserved word
 abbrev pub word_spelling : Word → List ℕ

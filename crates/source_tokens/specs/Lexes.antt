@@ -1,5 +1,6 @@
 -- The tokens of a text: at each place the longest lexeme is taken, up to the end or the first fault.
 use Rattle.std.specs.Prelude.{◌≡◌, ◌≢◌, ℕ, ◌+◌, ◌-◌, ◌^◌, ◌≤◌, ◌<◌, List, [], ◌∷◌, ◌++◌, length, slice_get, Some, Bool, true, false, if◌then◌else◌, IsTrue}
+use Rattle.priml_io.specs.Words.{value_of}
 use Rattle.source_tokens.specs.declared.token.Word.{Word}
 use Rattle.source_tokens.specs.declared.token.Sign.{Sign}
 use Rattle.source_tokens.specs.declared.token.Sign.TheVariants as s
@@ -8,7 +9,7 @@ use Rattle.source_tokens.specs.declared.token.Kind.TheVariants as k
 use Rattle.source_tokens.specs.declared.token.Token.{Token}
 use Rattle.source_tokens.specs.declared.token.Stop.{Stop}
 use Rattle.source_tokens.specs.declared.token.Stop.TheVariants as stop
-use Rattle.source_tokens.specs.Lexemes.{begins, is_word, is_number, value, word_spelling, sign_spelling, IsLongest, BeginsNone}
+use Rattle.source_tokens.specs.Lexemes.{begins, is_word, is_number, word_spelling, sign_spelling, IsLongest, BeginsNone}
 
 -- a name has the form of a word and is not reserved
 pub record IsName (lexeme : List ℕ) : Type 0 where
@@ -23,7 +24,7 @@ IsDistinct names = (j k : ℕ) (name : List ℕ) → slice_get names j ≡ Some 
 pub data Spells (known : List (List ℕ)) (lexeme : List ℕ) (kind : Kind) (names : List (List ℕ)) : Type 0 where
   word : (w : Word) → lexeme ≡ word_spelling w → kind ≡ k.Word w → names ≡ known → Spells known lexeme kind names
   sign : (s : Sign) → lexeme ≡ sign_spelling s → kind ≡ k.Sign s → names ≡ known → Spells known lexeme kind names
-  number : IsTrue (is_number lexeme) → value lexeme < 2 ^ 63 → kind ≡ k.Number (value lexeme) → names ≡ known → Spells known lexeme kind names
+  number : IsTrue (is_number lexeme) → value_of lexeme < 2 ^ 63 → kind ≡ k.Number (value_of lexeme) → names ≡ known → Spells known lexeme kind names
   old_name : (id : ℕ) → IsName lexeme → slice_get known id ≡ Some lexeme → kind ≡ k.Name id → names ≡ known → Spells known lexeme kind names
   new_name : IsName lexeme → ((id : ℕ) → slice_get known id ≢ Some lexeme) → kind ≡ k.Name (length known) → names ≡ known ++ (lexeme ∷ []) → Spells known lexeme kind names
 
@@ -63,7 +64,7 @@ pub data Lexes (total : ℕ) : ℕ → List (List ℕ) → List ℕ → List Tok
       → Lexes total depth known bs tokens names end
   -- the whole run of digits has too large a value
   bad_number : {depth : ℕ} {known : List (List ℕ)} {bs : List ℕ} {tokens : List Token} {names : List (List ℕ)} {end : Stop}
-      (lexeme rest : List ℕ) → begins bs ≡ lexeme ++ rest → IsLongest lexeme rest → IsTrue (is_number lexeme) → 2 ^ 63 ≤ value lexeme
+      (lexeme rest : List ℕ) → begins bs ≡ lexeme ++ rest → IsLongest lexeme rest → IsTrue (is_number lexeme) → 2 ^ 63 ≤ value_of lexeme
       → tokens ≡ [] → names ≡ known → end ≡ stop.BadNumber (place total bs)
       → Lexes total depth known bs tokens names end
   -- a bracket opens while 64 are open

@@ -2,10 +2,10 @@
 use Rattle.std.specs.Prelude.{◌≡◌, ◌≢◌, ℕ, ◌^◌, ◌≤◌, List, [], ◌∷◌, ◌++◌, ◌⊎◌, length, map, slice_get, Some}
 use Rattle.std.specs.HashSet.{HashSet}
 use Rattle.std.specs.declared.vec.Vec.{Vec}
+use Rattle.priml_io.specs.Words.{value_of}
 use Rattle.source_tokens.specs.declared.form.Form.{Form}
 use Rattle.source_tokens.specs.declared.form.Form.TheVariants as f
 use Rattle.source_tokens.specs.declared.lexer.Lexed.{Lexed}
-use Rattle.source_tokens.specs.Lexemes.{value}
 
 -- the bytes of the names of a set, in its order
 abbrev pub name_bytes : {Z S : Type 0} → HashSet (Vec ℕ Z) S → List (List ℕ)
@@ -22,6 +22,6 @@ IsNumbered known name id names =
 
 -- a number whose value is two to the 63 or more
 abbrev pub IsTooLarge : Form → List ℕ → Type 0
-IsTooLarge f.Number lexeme = 2 ^ 63 ≤ value lexeme
+IsTooLarge f.Number lexeme = 2 ^ 63 ≤ value_of lexeme
 IsTooLarge f.Word lexeme = ⊥
 IsTooLarge (f.Sign s) lexeme = ⊥

@@ -1,7 +1,10 @@
 //! Bytes, and the runs of them that stand between tokens and in words and numbers.
 ghost use Rattle.std.specs.Prelude.{◌≡◌, ◌<◌, ◌≤◌, ◌^◌, length, IfSome, IfNone};
 ghost use Rattle.std.specs.List.{prefix_len};
-ghost use Rattle.source_tokens.specs.Lexemes.{is_separator, is_passed, keeps_comment, begins, is_digit, begins_word, is_part, value};
+ghost use Rattle.source_tokens.specs.Lexemes.{is_separator, is_passed, keeps_comment, begins, is_digit, begins_word, is_part};
+ghost use Rattle.priml_io.specs.Words.{value_of};
+
+use priml_io::capped_value;
 
 fn is_separator(byte: u8) -> bool
     ensures { result ≡ is_separator byte }
@@ -109,15 +112,9 @@ pub(crate) fn digits_len(bytes: &[u8]) -> usize
 
 /// The value of digits, if it is below two to the 63.
 pub(crate) fn number(digits: &[u8]) -> Option<u64>
-    ensures found { IfSome result (λ n. (n ≡ value digits.now) × (n < 2 ^ 63)) }
-    ensures none { IfNone result (2 ^ 63 ≤ value digits.now) }
+    ensures found { IfSome result (λ n. (n ≡ value_of digits.now) × (n < 2 ^ 63)) }
+    ensures none { IfNone result (2 ^ 63 ≤ value_of digits.now) }
 {
-    let mut n: u64 = 0;
-    for digit in digits {
-        if n >= 1 << 60 {
-            return None;
-        }
-        n = 10 * n + u64::from(digit.saturating_sub(b'0'));
-    }
+    let n = capped_value(digits);
     if n < 1 << 63 { Some(n) } else { None }
 }

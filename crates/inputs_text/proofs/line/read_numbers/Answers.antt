@@ -1,7 +1,8 @@
 use Rattle.std.proofs.Common.{length, rules, tests}
 use Rattle.std.proofs.lemmas.Iterator.Consumers.{YieldsList-turn, YieldsList-end, YieldsList-from_filter}
 use Rattle.std.proofs.lemmas.Iterator.Splits.{YieldsList-from_slice_split}
-use Rattle.inputs_text.specs.InputLines.{is_blank, is_some_text, words_of, IsNumberText}
+use Rattle.priml_io.specs.Lines.{is_blank}
+use Rattle.inputs_text.specs.InputLines.{is_some_text, words_of, IsNumberText}
 use Rattle.inputs_text.proofs.Numbers.{number-kept}
 use Rattle.inputs_text.proofs.Pairs.{pairs-step, pairs-fail}
 use Rattle.inputs_text.proofs.line.read_numbers.Goals as goal

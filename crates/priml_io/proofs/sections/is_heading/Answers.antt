@@ -1,5 +1,5 @@
 use Rattle.std.proofs.Common.{length}
-use Rattle.priml_io.proofs.SectionsLemmas.{padded, unpadded, rest-is}
+use Rattle.priml_io.proofs.SectionsLemmas.{padding_told, unpadded, rest-is}
 use Rattle.priml_io.proofs.sections.is_heading.Goals as goal
 
 pub returns-then-not-begins_with : goal.returns-then-not-begins_with
@@ -7,4 +7,4 @@ returns-then-not-begins_with c = unpadded c.args.start.now c.args.line.now c.if-
 
 pub returns : goal.returns
 returns c =
-    padded c.args.start.now c.args.line.now c.are_blank.result c.if-not-begins_with.ensures (rw (rest-is c.args.line.now (length c.args.start.now)) at c.are_blank.ensures)
+    padding_told c.args.start.now c.args.line.now c.are_blank.result c.if-not-begins_with.ensures (rw (rest-is c.args.line.now (length c.args.start.now)) at c.are_blank.ensures)

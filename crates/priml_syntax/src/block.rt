@@ -4,6 +4,7 @@ ghost use Rattle.priml_syntax.specs.Read.{read_code, read_act, read_tail};
 ghost use Rattle.priml_syntax.specs.Lists.{body_of};
 
 use crate::expr::{Expr, copies};
+use crate::memory::boxed;
 use crate::prio::Prio;
 use std::alloc::{AllocError, Global};
 
@@ -90,15 +91,6 @@ impl Block {
             tail,
         })
     }
-
-    // An equal block in a box of its own.
-    #[cycle(copy)]
-    fn boxed(&self, alloc: Global) -> Result<Box<Block>, AllocError>
-        ensures { IfOk result (λ b. read_code b.value ≡ read_code self.now) }
-    {
-        let copy = self.copy(alloc)?;
-        Ok(Box::new(alloc, copy)?)
-    }
 }
 
 impl Bind {
@@ -124,13 +116,13 @@ impl Action {
     {
         match self {
             Action::Ret(e) => Ok(Action::Ret(e.copy(alloc)?)),
-            Action::Spawn(q, block) => Ok(Action::Spawn(*q, block.boxed(alloc)?)),
+            Action::Spawn(q, block) => Ok(Action::Spawn(*q, boxed(alloc, block.copy(alloc)?)?)),
             Action::Sync(h) => Ok(Action::Sync(*h)),
             Action::Call(f, ps, es) => {
                 let ps = Vec::from_slice(alloc, ps)?;
                 Ok(Action::Call(*f, ps, copies(alloc, es)?))
             }
-            Action::Do(block) => Ok(Action::Do(block.boxed(alloc)?)),
+            Action::Do(block) => Ok(Action::Do(boxed(alloc, block.copy(alloc)?)?)),
             Action::Input => Ok(Action::Input),
             Action::Output(e) => Ok(Action::Output(e.copy(alloc)?)),
         }
@@ -158,13 +150,13 @@ impl TailForm {
             TailForm::Ret(e) => Ok(TailForm::Ret(e.copy(alloc)?)),
             TailForm::If(e, a, b) => {
                 let e = e.copy(alloc)?;
-                let a = a.boxed(alloc)?;
-                Ok(TailForm::If(e, a, b.boxed(alloc)?))
+                let a = boxed(alloc, a.copy(alloc)?)?;
+                Ok(TailForm::If(e, a, boxed(alloc, b.copy(alloc)?)?))
             }
             TailForm::Case(e, a, b) => {
                 let e = e.copy(alloc)?;
-                let a = a.boxed(alloc)?;
-                Ok(TailForm::Case(e, a, b.boxed(alloc)?))
+                let a = boxed(alloc, a.copy(alloc)?)?;
+                Ok(TailForm::Case(e, a, boxed(alloc, b.copy(alloc)?)?))
             }
         }
     }

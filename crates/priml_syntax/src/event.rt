@@ -39,8 +39,8 @@ impl Event {
     }
 }
 
-// Equal events, in order.
-pub(crate) fn copies(alloc: Global, list: &[Event]) -> Result<Vec<Event>, AllocError>
+/// Equal events, in order.
+pub fn copy_events(alloc: Global, list: &[Event]) -> Result<Vec<Event>, AllocError>
     ensures { IfOk result (λ v. v.items ≡ list.now) }
 {
     let mut all = Vec::new(alloc);

@@ -1,6 +1,7 @@
 ghost use Rattle.std.specs.Prelude.{◌≡◌, ℕ, IfOk, map};
 ghost use Rattle.priml_syntax.specs.Read.{read_term, read_form};
 
+use crate::memory::boxed;
 use crate::ty::Ty;
 use std::alloc::{AllocError, Global};
 
@@ -78,15 +79,6 @@ impl Expr {
         let form = self.form.copy(alloc)?;
         Ok(Expr { at: self.at, form })
     }
-
-    // An equal expression in a box of its own.
-    #[cycle(copy)]
-    fn boxed(&self, alloc: Global) -> Result<Box<Expr>, AllocError>
-        ensures { IfOk result (λ e. read_term e.value ≡ read_term self.now) }
-    {
-        let copy = self.copy(alloc)?;
-        Ok(Box::new(alloc, copy)?)
-    }
 }
 
 impl ExprForm {
@@ -101,24 +93,24 @@ impl ExprForm {
             ExprForm::Bool(b) => Ok(ExprForm::Bool(*b)),
             ExprForm::Unit => Ok(ExprForm::Unit),
             ExprForm::Pair(a, b) => {
-                let a = a.boxed(alloc)?;
-                Ok(ExprForm::Pair(a, b.boxed(alloc)?))
+                let a = boxed(alloc, a.copy(alloc)?)?;
+                Ok(ExprForm::Pair(a, boxed(alloc, b.copy(alloc)?)?))
             }
-            ExprForm::Fst(a) => Ok(ExprForm::Fst(a.boxed(alloc)?)),
-            ExprForm::Snd(a) => Ok(ExprForm::Snd(a.boxed(alloc)?)),
+            ExprForm::Fst(a) => Ok(ExprForm::Fst(boxed(alloc, a.copy(alloc)?)?)),
+            ExprForm::Snd(a) => Ok(ExprForm::Snd(boxed(alloc, a.copy(alloc)?)?)),
             ExprForm::Inl(t, a) => {
                 let t = t.copy(alloc)?;
-                Ok(ExprForm::Inl(t, a.boxed(alloc)?))
+                Ok(ExprForm::Inl(t, boxed(alloc, a.copy(alloc)?)?))
             }
             ExprForm::Inr(t, a) => {
                 let t = t.copy(alloc)?;
-                Ok(ExprForm::Inr(t, a.boxed(alloc)?))
+                Ok(ExprForm::Inr(t, boxed(alloc, a.copy(alloc)?)?))
             }
             ExprForm::Op(op, a, b) => {
-                let a = a.boxed(alloc)?;
-                Ok(ExprForm::Op(*op, a, b.boxed(alloc)?))
+                let a = boxed(alloc, a.copy(alloc)?)?;
+                Ok(ExprForm::Op(*op, a, boxed(alloc, b.copy(alloc)?)?))
             }
-            ExprForm::Not(a) => Ok(ExprForm::Not(a.boxed(alloc)?)),
+            ExprForm::Not(a) => Ok(ExprForm::Not(boxed(alloc, a.copy(alloc)?)?)),
         }
     }
 }

@@ -6,7 +6,7 @@ ghost use Rattle.priml_syntax.specs.Read.{read_record};
 ghost use Rattle.priml_syntax.specs.Records.{InPathOrder, work};
 ghost use Rattle.priml_syntax.specs.declared.record.Record.{Record as TheRecord};
 
-use crate::event::{Event, copies};
+use crate::event::{Event, copy_events};
 use crate::path::Path;
 use crate::value::Outcome;
 use std::alloc::{AllocError, Global};
@@ -53,7 +53,7 @@ impl Record {
         ensures { IfOk result (λ r. read_record r ≡ read_record self.now) }
     {
         let path = self.path.copy(alloc)?;
-        let events = copies(alloc, &self.events)?;
+        let events = copy_events(alloc, &self.events)?;
         let outcome = self.outcome.copy(alloc)?;
         Ok(Record {
             path,

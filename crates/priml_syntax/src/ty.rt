@@ -2,6 +2,7 @@ ghost use Rattle.std.specs.Prelude.{◌≡◌, ◌↔◌, IsTrue, IfOk, ◌-◌,
 ghost use Rattle.priml_syntax.specs.Read.{read_type};
 ghost use Rattle.priml_syntax.specs.Size.{type_nodes};
 
+use crate::memory::boxed;
 use crate::prio::Prio;
 use std::alloc::{AllocError, Global};
 
@@ -30,24 +31,15 @@ impl Ty {
             Ty::Bool => Ok(Ty::Bool),
             Ty::Int => Ok(Ty::Int),
             Ty::Pair(a, b) => {
-                let a = a.boxed(alloc)?;
-                Ok(Ty::Pair(a, b.boxed(alloc)?))
+                let a = boxed(alloc, a.copy(alloc)?)?;
+                Ok(Ty::Pair(a, boxed(alloc, b.copy(alloc)?)?))
             }
             Ty::Sum(a, b) => {
-                let a = a.boxed(alloc)?;
-                Ok(Ty::Sum(a, b.boxed(alloc)?))
+                let a = boxed(alloc, a.copy(alloc)?)?;
+                Ok(Ty::Sum(a, boxed(alloc, b.copy(alloc)?)?))
             }
-            Ty::Thread(p, a) => Ok(Ty::Thread(*p, a.boxed(alloc)?)),
+            Ty::Thread(p, a) => Ok(Ty::Thread(*p, boxed(alloc, a.copy(alloc)?)?)),
         }
-    }
-
-    // An equal type in a box of its own.
-    #[cycle(copy)]
-    fn boxed(&self, alloc: Global) -> Result<Box<Ty>, AllocError>
-        ensures { IfOk result (λ t. read_type t.value ≡ read_type self.now) }
-    {
-        let copy = self.copy(alloc)?;
-        Ok(Box::new(alloc, copy)?)
     }
 
     /// Whether the two are the same type, thread priorities compared by name.

@@ -1,6 +1,7 @@
 ghost use Rattle.std.specs.Prelude.{◌≡◌, IfOk};
 ghost use Rattle.priml_syntax.specs.Read.{read_value, read_outcome};
 
+use crate::memory::boxed;
 use crate::path::Path;
 use std::alloc::{AllocError, Global};
 
@@ -48,22 +49,13 @@ impl Value {
             Value::Bool(b) => Ok(Value::Bool(*b)),
             Value::Int(n) => Ok(Value::Int(*n)),
             Value::Pair(a, b) => {
-                let a = a.boxed(alloc)?;
-                Ok(Value::Pair(a, b.boxed(alloc)?))
+                let a = boxed(alloc, a.copy(alloc)?)?;
+                Ok(Value::Pair(a, boxed(alloc, b.copy(alloc)?)?))
             }
-            Value::Inl(a) => Ok(Value::Inl(a.boxed(alloc)?)),
-            Value::Inr(a) => Ok(Value::Inr(a.boxed(alloc)?)),
+            Value::Inl(a) => Ok(Value::Inl(boxed(alloc, a.copy(alloc)?)?)),
+            Value::Inr(a) => Ok(Value::Inr(boxed(alloc, a.copy(alloc)?)?)),
             Value::Thread(path, prio) => Ok(Value::Thread(path.copy(alloc)?, *prio)),
         }
-    }
-
-    // An equal value in a box of its own.
-    #[cycle(copy)]
-    fn boxed(&self, alloc: Global) -> Result<Box<Value>, AllocError>
-        ensures { IfOk result (λ v. read_value v.value ≡ read_value self.now) }
-    {
-        let copy = self.copy(alloc)?;
-        Ok(Box::new(alloc, copy)?)
     }
 }
 

@@ -14,6 +14,7 @@ use crate::choice::{ActionForm, TailForm};
 use crate::cursor::{Stop, Tokens};
 use crate::expr::expr;
 use crate::raw::{RawAction, RawBind, RawBlock, RawTail, RawTailForm};
+use priml_syntax::boxed;
 use source_tokens::token::{Sign, Word};
 use std::alloc::{AllocError, Global};
 
@@ -179,12 +180,6 @@ fn boxed_block(alloc: Global, tokens: &mut Tokens) -> Result<Box<RawBlock>, Stop
 {
     let body = block(alloc, tokens)?;
     Ok(boxed(alloc, body)?)
-}
-
-fn boxed(alloc: Global, body: RawBlock) -> Result<Box<RawBlock>, AllocError>
-    ensures { IfOk result (λ b. read_block b.value ≡ read_block body) }
-{
-    Ok(Box::new(alloc, body)?)
 }
 
 fn push(binds: &mut Vec<RawBind>, bind: RawBind) -> Result<(), AllocError>

@@ -13,6 +13,7 @@ use crate::choice::{ExprForm, Joint, Prefix, Side};
 use crate::cursor::{Stop, Tokens};
 use crate::raw::{RawExpr, RawForm, RawInjection, RawTwo, Written};
 use crate::ty::written;
+use priml_syntax::boxed;
 use source_tokens::token::{Kind, Sign, Token, Word};
 use std::alloc::{AllocError, Global};
 
@@ -337,10 +338,4 @@ fn boxed_injection(
     ensures value { IfOk result (λ b. read_expr b.value.value ≡ read_expr value) }
 {
     Ok(Box::new(alloc, RawInjection { sum, value })?)
-}
-
-fn boxed(alloc: Global, value: RawExpr) -> Result<Box<RawExpr>, AllocError>
-    ensures { IfOk result (λ b. read_expr b.value ≡ read_expr value) }
-{
-    Ok(Box::new(alloc, value)?)
 }

@@ -1,6 +1,6 @@
 //! Lists with commas between their parts.
 
-ghost use Rattle.std.specs.Prelude.{List, ◌≡◌, ◌∷◌, ◌++◌, [], ◌<◌, ◌≤◌, IfOk, OnOk, length};
+ghost use Rattle.std.specs.Prelude.{List, ◌≡◌, ◌∷◌, ◌++◌, [], ◌<◌, ◌≤◌, IfOk, length};
 ghost use Rattle.source_tokens.specs.declared.token.Token.{Token};
 ghost use Rattle.source_grammar.specs.Grammar.{IsExpr, IsGiven, IsListed, IsName, IsParameter, IsSeparated};
 ghost use Rattle.source_grammar.specs.Joined.{IsBehindComma};
@@ -13,8 +13,9 @@ use crate::cursor::{Stop, Tokens};
 use crate::expr::expr;
 use crate::raw::{Name, RawExpr, RawParam};
 use crate::ty::written;
+use priml_syntax::push;
 use source_tokens::token::Sign;
-use std::alloc::{AllocError, Global};
+use std::alloc::Global;
 
 /// A part of a list.
 pub trait Item: Drop + Sized {
@@ -129,12 +130,4 @@ fn behind_comma<T: Item>(alloc: Global, tokens: &mut Tokens) -> Result<T, Stop>
 {
     tokens.expect_sign(Sign::Comma)?;
     T::item(alloc, tokens)
-}
-
-/// Adds a part at the end.
-pub fn push<T: Drop>(items: &mut Vec<T>, item: T) -> Result<(), AllocError>
-    ensures { OnOk result (items.new.items ≡ items.old.items ++ item ∷ []) }
-{
-    items.push(item)?;
-    Ok(())
 }

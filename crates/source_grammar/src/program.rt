@@ -13,8 +13,8 @@ ghost use Rattle.source_tokens.specs.Runs.{joined};
 use crate::choice::DeclarationForm;
 use crate::cursor::{Stop, Tokens};
 use crate::head::{procedure, routine};
-use crate::list::push;
 use crate::raw::{RawDecl, RawMain, RawProgram};
+use priml_syntax::push;
 use source_tokens::token::{Sign, Token, Word};
 use std::alloc::Global;
 

@@ -11,6 +11,7 @@ ghost use Rattle.source_grammar.specs.Stops.{Moves};
 use crate::choice::{Mid, TyForm};
 use crate::cursor::{Stop, Tokens};
 use crate::raw::{RawTy, Written};
+use priml_syntax::boxed;
 use source_tokens::token::{Kind, Sign, Token, Word};
 use std::alloc::{AllocError, Global};
 
@@ -139,10 +140,4 @@ fn joined(alloc: Global, mid: Mid, first: RawTy, second: RawTy) -> Result<RawTy,
         Mid::Star => Ok(RawTy::Pair(first, second)),
         Mid::Plus => Ok(RawTy::Sum(first, second)),
     }
-}
-
-fn boxed(alloc: Global, ty: RawTy) -> Result<Box<RawTy>, AllocError>
-    ensures { IfOk result (λ b. read_ty b.value ≡ read_ty ty) }
-{
-    Ok(Box::new(alloc, ty)?)
 }

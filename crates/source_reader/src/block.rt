@@ -1,6 +1,6 @@
 //! Blocks with their names resolved.
 
-ghost use Rattle.std.specs.Prelude.{◌≡◌, ◌≤◌, ◌++◌, ◌∷◌, [], length, map, IfOk, OnOk};
+ghost use Rattle.std.specs.Prelude.{◌≡◌, ◌≤◌, ◌++◌, ◌∷◌, [], length, map, OnOk};
 ghost use Rattle.priml_syntax.specs.Tree as tree;
 ghost use Rattle.priml_syntax.specs.Read.{read_code, read_act, read_tail};
 ghost use Rattle.source_grammar.specs.RawRead.{read_block, read_action, read_expr};
@@ -16,9 +16,9 @@ use crate::faults::{Fault, ResolveStop, What};
 use crate::list::{expressions, priorities};
 use crate::names::{Names, bring};
 use crate::term::{expression, priority, procedure, variable};
-use priml_syntax::{Action, Bind, Block, Tail, TailForm};
+use priml_syntax::{Action, Bind, Block, Tail, TailForm, boxed, push};
 use source_grammar::raw::{Name, RawAction, RawBind, RawBlock, RawExpr, RawTail, RawTailForm};
-use std::alloc::{AllocError, Global};
+use std::alloc::Global;
 
 /// The most variables that may be in scope.
 const SCOPE: usize = 32;
@@ -93,7 +93,7 @@ fn action_of(
         RawAction::Ret(e) => Ok(Action::Ret(expression(alloc, names, scope, e)?)),
         RawAction::Spawn(own, body) => {
             let own = priority(names, own)?;
-            let body = boxed(alloc, names, scope, body)?;
+            let body = boxed_block(alloc, names, scope, body)?;
             Ok(Action::Spawn(own, body))
         }
         RawAction::Sync(thread) => Ok(Action::Sync(variable(scope, thread.at, thread.id)?)),
@@ -105,7 +105,7 @@ fn action_of(
             &made.priorities,
             &made.arguments,
         ),
-        RawAction::Do(body) => Ok(Action::Do(boxed(alloc, names, scope, body)?)),
+        RawAction::Do(body) => Ok(Action::Do(boxed_block(alloc, names, scope, body)?)),
         RawAction::Input => Ok(Action::Input),
         RawAction::Output(e) => Ok(Action::Output(expression(alloc, names, scope, e)?)),
     }
@@ -146,8 +146,8 @@ fn form_of(
         RawTailForm::Ret(e) => Ok(TailForm::Ret(expression(alloc, names, scope, e)?)),
         RawTailForm::If(e, a, b) => {
             let e = expression(alloc, names, scope, e)?;
-            let a = boxed(alloc, names, scope, a)?;
-            let b = boxed(alloc, names, scope, b)?;
+            let a = boxed_block(alloc, names, scope, a)?;
+            let b = boxed_block(alloc, names, scope, b)?;
             Ok(TailForm::If(e, a, b))
         }
         RawTailForm::Case(e, m, a, n, b) => {
@@ -179,13 +179,13 @@ fn branch(
         return Err(ResolveStop::Fault(Fault::TooMany(at, What::Scope)));
     }
     bring(scope, id)?;
-    let block = boxed(alloc, names, scope, raw)?;
+    let block = boxed_block(alloc, names, scope, raw)?;
     scope.truncate(outer);
     Ok(block)
 }
 
 #[cycle(resolve)]
-fn boxed(
+fn boxed_block(
     alloc: Global,
     names: &Names,
     scope: &mut Vec<usize>,
@@ -197,13 +197,7 @@ fn boxed(
     ensures scope { OnOk result (scope.new.items ≡ scope.old.items) }
 {
     let block = block_of(alloc, names, scope, raw)?;
-    Ok(box_block(alloc, block)?)
-}
-
-fn box_block(alloc: Global, block: Block) -> Result<Box<Block>, AllocError>
-    ensures { IfOk result (λ b. read_code b.value ≡ read_code block) }
-{
-    Ok(Box::new(alloc, block)?)
+    Ok(boxed(alloc, block)?)
 }
 
 // The call of the procedure of this name.
@@ -223,11 +217,4 @@ fn call(
     let given = priorities(alloc, names, given)?;
     let arguments = expressions(alloc, names, scope, arguments)?;
     Ok(Action::Call(number, given, arguments))
-}
-
-fn push(binds: &mut Vec<Bind>, bind: Bind) -> Result<(), AllocError>
-    ensures { OnOk result (binds.new.items ≡ binds.old.items ++ bind ∷ []) }
-{
-    binds.push(bind)?;
-    Ok(())
 }

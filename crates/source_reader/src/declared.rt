@@ -17,7 +17,7 @@ use crate::faults::{Fault, ResolveStop, What};
 use crate::names::{Index, Names};
 use crate::once::once;
 use crate::procedure::procedure_of;
-use priml_syntax::Proc;
+use priml_syntax::{Proc, push};
 use source_grammar::raw::{Name, RawDecl};
 use std::alloc::{AllocError, Global};
 
@@ -118,7 +118,7 @@ fn declare(
         RawDecl::Proc(f) => {
             once(&mut all.called, &f.name, PAIRS, What::Procedures)?;
             let proc = procedure_of(alloc, names, f)?;
-            Ok(push_proc(&mut all.procs, proc)?)
+            Ok(push(&mut all.procs, proc)?)
         }
     }
 }
@@ -140,7 +140,7 @@ fn pair(
     }
     let low = known(names, low)?;
     let high = known(names, high)?;
-    push_pair(pairs, (at, low, high))?;
+    push(pairs, (at, low, high))?;
     Ok(())
 }
 
@@ -153,18 +153,4 @@ fn known(names: &Names, name: &Name) -> Result<u32, ResolveStop>
         Some(number) => Ok(number),
         None => Err(ResolveStop::Fault(Fault::UnknownName(name.at))),
     }
-}
-
-fn push_pair(pairs: &mut Vec<(u64, u32, u32)>, one: (u64, u32, u32)) -> Result<(), AllocError>
-    ensures { OnOk result (pairs.new.items ≡ pairs.old.items ++ one ∷ []) }
-{
-    pairs.push(one)?;
-    Ok(())
-}
-
-fn push_proc(procs: &mut Vec<Proc>, one: Proc) -> Result<(), AllocError>
-    ensures { OnOk result (procs.new.items ≡ procs.old.items ++ one ∷ []) }
-{
-    procs.push(one)?;
-    Ok(())
 }

@@ -1,6 +1,6 @@
 //! The priorities and the arguments of a call.
 
-ghost use Rattle.std.specs.Prelude.{◌≡◌, ◌≤◌, ◌++◌, ◌∷◌, [], length, map, OnOk};
+ghost use Rattle.std.specs.Prelude.{◌≡◌, ◌≤◌, ◌++◌, ◌∷◌, [], length, map};
 ghost use Rattle.priml_syntax.specs.Read.{read_term};
 ghost use Rattle.source_grammar.specs.RawRead.{read_expr};
 ghost use Rattle.source_reader.specs.Faults.{prios_faults, terms_faults};
@@ -12,9 +12,9 @@ ghost use Rattle.source_reader.specs.Known.{env_in};
 use crate::faults::ResolveStop;
 use crate::names::Names;
 use crate::term::{expression, priority};
-use priml_syntax::{Expr, Prio};
+use priml_syntax::{Expr, Prio, push};
 use source_grammar::raw::{Name, RawExpr};
-use std::alloc::{AllocError, Global};
+use std::alloc::Global;
 
 /// The priorities of these names, in order.
 pub fn priorities(alloc: Global, names: &Names, list: &[Name]) -> Result<Vec<Prio>, ResolveStop>
@@ -23,7 +23,7 @@ pub fn priorities(alloc: Global, names: &Names, list: &[Name]) -> Result<Vec<Pri
     let mut all = Vec::with_capacity(alloc, list.len())?;
     for name in list {
         let found = priority(names, name)?;
-        push_priority(&mut all, found)?;
+        push(&mut all, found)?;
     }
     Ok(all)
 }
@@ -42,21 +42,7 @@ pub fn expressions(
     let mut all = Vec::with_capacity(alloc, list.len())?;
     for raw in list {
         let e = expression(alloc, names, scope, raw)?;
-        push_expression(&mut all, e)?;
+        push(&mut all, e)?;
     }
     Ok(all)
-}
-
-fn push_priority(all: &mut Vec<Prio>, one: Prio) -> Result<(), AllocError>
-    ensures { OnOk result (all.new.items ≡ all.old.items ++ one ∷ []) }
-{
-    all.push(one)?;
-    Ok(())
-}
-
-fn push_expression(all: &mut Vec<Expr>, one: Expr) -> Result<(), AllocError>
-    ensures { OnOk result (all.new.items ≡ all.old.items ++ one ∷ []) }
-{
-    all.push(one)?;
-    Ok(())
 }

@@ -17,9 +17,9 @@ use crate::faults::{Fault, ResolveStop, What};
 use crate::names::Names;
 use crate::once::once;
 use crate::term::{priority, written};
-use priml_syntax::{Prio, Proc, Ty};
+use priml_syntax::{Prio, Proc, Ty, push};
 use source_grammar::raw::{Name, RawMain, RawParam, RawProc};
-use std::alloc::{AllocError, Global};
+use std::alloc::Global;
 
 /// The most priority variables of a procedure, and the most parameters.
 const EIGHT: usize = 8;
@@ -126,7 +126,7 @@ fn constrain(
         return Err(ResolveStop::Fault(Fault::TooMany(low.at, What::Constraints)));
     }
     let second = priority(names, high)?;
-    push_pair(all, (first, second))?;
+    push(all, (first, second))?;
     Ok(())
 }
 
@@ -146,21 +146,7 @@ fn parameters(
     for param in list {
         once(&mut scope, &param.name, EIGHT, What::Parameters)?;
         let ty = written(alloc, names, &param.ty)?;
-        push_type(&mut types, ty)?;
+        push(&mut types, ty)?;
     }
     Ok((scope, types))
-}
-
-fn push_pair(all: &mut Vec<(Prio, Prio)>, one: (Prio, Prio)) -> Result<(), AllocError>
-    ensures { OnOk result (all.new.items ≡ all.old.items ++ one ∷ []) }
-{
-    all.push(one)?;
-    Ok(())
-}
-
-fn push_type(all: &mut Vec<Ty>, one: Ty) -> Result<(), AllocError>
-    ensures { OnOk result (all.new.items ≡ all.old.items ++ one ∷ []) }
-{
-    all.push(one)?;
-    Ok(())
 }

@@ -1,6 +1,6 @@
 //! Types and expressions with their names resolved.
 
-ghost use Rattle.std.specs.Prelude.{◌≡◌, ◌≤◌, ◌-◌, ◌^◌, length, min, IfOk};
+ghost use Rattle.std.specs.Prelude.{◌≡◌, ◌≤◌, ◌-◌, ◌^◌, length, min};
 ghost use Rattle.priml_syntax.specs.Read.{read_type, read_term, read_form};
 ghost use Rattle.source_grammar.specs.RawRead.{read_ty, read_written, read_expr};
 ghost use Rattle.source_grammar.specs.RawRead.{read_form as read_raw_form};
@@ -13,9 +13,9 @@ ghost use Rattle.source_reader.specs.Known.{env_in};
 
 use crate::faults::{Fault, ResolveStop, What};
 use crate::names::{Names, find};
-use priml_syntax::{Expr, ExprForm, Prio, Ty};
+use priml_syntax::{Expr, ExprForm, Prio, Ty, boxed};
 use source_grammar::raw::{Name, RawExpr, RawForm, RawTy, Written};
-use std::alloc::{AllocError, Global};
+use std::alloc::Global;
 
 /// The most nodes of a written type.
 const NODES: u64 = 16;
@@ -109,13 +109,7 @@ fn boxed_type(alloc: Global, names: &Names, raw: &RawTy) -> Result<Box<Ty>, Reso
     ensures { Gives (type_faults (env_in names.now) (read_ty raw.now)) (type_meant (env_in names.now) (read_ty raw.now)) (λ t. read_type t.value) result }
 {
     let ty = type_of(alloc, names, raw)?;
-    Ok(box_type(alloc, ty)?)
-}
-
-fn box_type(alloc: Global, ty: Ty) -> Result<Box<Ty>, AllocError>
-    ensures { IfOk result (λ b. read_type b.value ≡ read_type ty) }
-{
-    Ok(Box::new(alloc, ty)?)
+    Ok(boxed(alloc, ty)?)
 }
 
 /// The expression, its names resolved in this scope.
@@ -190,11 +184,5 @@ fn boxed_term(
     ensures { Gives (term_faults (env_in names.now) (read_expr raw.now) scope.now) (term_meant (env_in names.now) (read_expr raw.now) scope.now) (λ e. read_term e.value) result }
 {
     let e = expression(alloc, names, scope, raw)?;
-    Ok(box_term(alloc, e)?)
-}
-
-fn box_term(alloc: Global, e: Expr) -> Result<Box<Expr>, AllocError>
-    ensures { IfOk result (λ b. read_term b.value ≡ read_term e) }
-{
-    Ok(Box::new(alloc, e)?)
+    Ok(boxed(alloc, e)?)
 }

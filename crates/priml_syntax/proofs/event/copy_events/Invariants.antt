@@ -1,5 +1,5 @@
 use Rattle.std.proofs.Common.{◌≡◌, take}
-use Rattle.priml_syntax.proofs.event.copies.Given as goal
+use Rattle.priml_syntax.proofs.event.copy_events.Given as goal
 
 abbrev pub invariant-loop-event : goal.invariant-loop-event
 invariant-loop-event l = l.all.items ≡ take l.event-index l.list

@@ -73,8 +73,8 @@ block_of-loop-bind-preserved t c =
       kept = kept_push now new d.name.id c.len-outer.result c.loop-bind.invariant.deep s ∙ c.loop-bind.invariant.kept;
       fits = fits.1;
       faults = subst (λ z. all ≡ body_faults rest env z) (sym s) (passed all room act more step c.in_ok-action.ensures.gives.0);
-      made = subst (λ z. all_made ≡ body_of c.push.new.binds.items (body_meant rest env z)) (sym s)
-          (made_more all_made (body_meant rest env (now ++ d.name.id ∷ [])) (act_meant (read_action d.action) env now) c.loop-bind.binds.items c.push.new.binds.items (record { at = d.at; action = c.in_ok-action.action }) d.at made_step c.in_ok-push.ensures refl c.in_ok-action.ensures.gives.1);
+      made = subst (λ z. all_made ≡ body_of c.push.new.items.items (body_meant rest env z)) (sym s)
+          (made_more all_made (body_meant rest env (now ++ d.name.id ∷ [])) (act_meant (read_action d.action) env now) c.loop-bind.binds.items c.push.new.items.items (record { at = d.at; action = c.in_ok-action.action }) d.at made_step c.in_ok-push.ensures refl c.in_ok-action.ensures.gives.1);
     }
 
 pub block_of-returns-in_err-tail-clause-gives : goal.block_of-returns-in_err-tail-clause-gives

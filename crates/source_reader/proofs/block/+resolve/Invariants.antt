@@ -16,8 +16,8 @@ use Rattle.source_reader.proofs.block.+resolve.Given as goal
 abbrev pub decreases-block_of : goal.decreases-block_of
 decreases-block_of l = size-RawBlock l.raw.now * 3
 
-abbrev pub decreases-boxed : goal.decreases-boxed
-decreases-boxed l = size-RawBlock l.raw.now * 3 + 1
+abbrev pub decreases-boxed_block : goal.decreases-boxed_block
+decreases-boxed_block l = size-RawBlock l.raw.now * 3 + 1
 
 abbrev pub decreases-branch : goal.decreases-branch
 decreases-branch l = size-RawBlock l.raw.now * 3 + 2

@@ -32,5 +32,5 @@ loop-raw-preserved c =
     record {
       fits = fits.1;
       faults = c.loop-raw.invariant.faults ∙ ap (λ v. terms_faults env v scope) next ∙ ap (λ v. v ++ terms_faults env (map read_expr (drop (i + 1) xs)) scope) c.in_ok-e.ensures.0;
-      made = read_next (λ (x : RawTerm). term_meant env x scope) xs i d c.loop-raw.all.items c.push_expression.new.all.items c.in_ok-e.e c.loop-raw-test.true c.raw-item.is c.loop-raw.invariant.made c.in_ok-push_expression.ensures c.in_ok-e.ensures.1;
+      made = read_next (λ (x : RawTerm). term_meant env x scope) xs i d c.loop-raw.all.items c.push.new.items.items c.in_ok-e.e c.loop-raw-test.true c.raw-item.is c.loop-raw.invariant.made c.in_ok-push.ensures c.in_ok-e.ensures.1;
     }

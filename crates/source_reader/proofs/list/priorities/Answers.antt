@@ -26,5 +26,5 @@ loop-name-preserved c =
     let l = c.loop-name-test.true in
     record {
       faults = c.loop-name.invariant.faults ∙ ap (prios_faults env) (next_of ns i d l) ∙ ap (λ v. v ++ prios_faults env (drop (i + 1) ns)) c.in_ok-found.ensures.0;
-      made = made_next (λ (n : Name). prio_of env n.id) ns i d c.loop-name.all.items c.push_priority.new.all.items c.in_ok-found.found l c.loop-name.invariant.made c.in_ok-push_priority.ensures c.in_ok-found.ensures.1;
+      made = made_next (λ (n : Name). prio_of env n.id) ns i d c.loop-name.all.items c.push.new.items.items c.in_ok-found.found l c.loop-name.invariant.made c.in_ok-push.ensures c.in_ok-found.ensures.1;
     }

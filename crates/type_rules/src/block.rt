@@ -11,8 +11,8 @@ use crate::shared::{Shape, Shared};
 use crate::term::{fault, type_of};
 use crate::{TypeKind, TypeStop};
 use constraint_proof::Known;
-use priml_syntax::{Action, Block, Prio, Proc, Tail, TailForm};
-use std::alloc::{AllocError, Global};
+use priml_syntax::{Action, Block, Prio, Proc, Tail, TailForm, push};
+use std::alloc::Global;
 
 #[cycle(check)]
 pub fn type_of_block<'p>(
@@ -35,13 +35,6 @@ pub fn type_of_block<'p>(
     let t = type_of_tail(alloc, known, procs, scope, r, &block.tail)?;
     scope.truncate(depth);
     Ok(t)
-}
-
-pub fn push<'p>(scope: &mut Vec<Shared<'p>>, t: Shared<'p>) -> Result<(), AllocError>
-    ensures { OnOk result (scope.new.items ≡ scope.old.items ++ t.entry ∷ []) }
-{
-    scope.push(t)?;
-    Ok(())
 }
 
 #[cycle(check)]

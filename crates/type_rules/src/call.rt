@@ -6,12 +6,11 @@ ghost use Rattle.type_rules.specs.Shared.{read_shared};
 ghost use Rattle.type_rules.specs.Answers.{setting, scope_of, ActAnswer, TermsStop};
 ghost use Rattle.type_rules.specs.Calls.{GivenAnswer};
 
-use crate::block::push;
 use crate::shared::{Shared, at_prio};
 use crate::term::{fault, type_of};
 use crate::{TypeKind, TypeStop};
 use constraint_proof::Known;
-use priml_syntax::{Expr, Prio, Proc, Ty};
+use priml_syntax::{Expr, Prio, Proc, Ty, push};
 use std::alloc::Global;
 
 pub fn type_of_call<'p>(

@@ -1,18 +1,23 @@
 -- What an evaluation of an expression answers, as a plain tree.
-use Rattle.std.specs.Prelude.{List, [], ◌∷◌, ◌++◌, map, Option, Some, None, Result, Ok, Err}
+use Rattle.std.specs.Prelude.{◌≡◌, ℤ, List, [], ◌∷◌, ◌++◌, map, Option, Some, None, Result, Ok, Err}
 use Rattle.std.specs.Option.{option_map}
 use Rattle.std.specs.declared.vec.Vec.{Vec}
 use Rattle.std.specs.declared.alloc.Global.{Global}
 use Rattle.priml_syntax.specs.declared.value.FaultKind.{FaultKind}
 use Rattle.priml_syntax.specs.declared.value.Value.{Value}
 use Rattle.priml_syntax.specs.declared.value.Outcome.{Outcome}
-use Rattle.priml_syntax.specs.Values.{Value', Outcome', returned, faulted}
+use Rattle.priml_syntax.specs.Tree.{Term}
+use Rattle.priml_syntax.specs.Values.{Value', Outcome', returned, faulted, int_value}
 use Rattle.priml_syntax.specs.Read.{read_value, read_outcome}
-use Rattle.core_steps.specs.Expressions.{Results, AllGave, OneFault}
+use Rattle.core_steps.specs.Expressions.{Results, AllGave, OneFault, result_of}
 
 -- a value or a fault; none where a value of a wrong kind was met
 abbrev pub read_result : Option Outcome → Option Outcome'
 read_result = option_map read_outcome
+
+-- two expressions that give these numbers
+abbrev pub AreNumbers : List Value' → Term → Term → ℤ → ℤ → Type 0
+AreNumbers s a b m n = (result_of s a ≡ Some (returned (int_value m))) × (result_of s b ≡ Some (returned (int_value n)))
 
 -- what comes of a value, or what came in its place
 abbrev pub one_with : (Value' → Option Outcome') → Result Value (Option Outcome) → Option Outcome'

@@ -49,6 +49,7 @@ impl Local {
         match self.top.given(alloc, expr)? {
             Given::Value(value) => {
                 if self.below.len() == 0 {
+                    self.below = Vec::new(alloc);
                     return Ok(self.end(Outcome::Value(value)));
                 }
                 self.leave(value)?;

@@ -1,12 +1,13 @@
 //! What an expression gives in a scope.
 
-ghost use Rattle.std.specs.Prelude.{◌≡◌, Option, Some, map, slice_get, IfOk, OnOk};
+ghost use Rattle.std.specs.Prelude.{◌≡◌, Option, Some, map, slice_get, IfOk, IfSome, OnOk};
 ghost use Rattle.std.specs.Option.{unwrap_or};
 ghost use Rattle.priml_syntax.specs.Read.{read_value, read_term, read_outcome};
 ghost use Rattle.priml_syntax.specs.Values.{Value', Outcome', returned, bool_value, int_value, pair_value, left_value, right_value};
 ghost use Rattle.core_steps.specs.Expressions.{result_of, results_of, gave, with_one, with_two, fst_value, snd_value, not_value, op_value};
-ghost use Rattle.core_steps.specs.Results.{read_result, read_results, collected, with_last, one_with, two_with};
+ghost use Rattle.core_steps.specs.Results.{AreNumbers, read_result, read_results, collected, with_last, one_with, two_with};
 
+use crate::kinds::number;
 use crate::numbers::{on_numbers, on_truths, truth};
 use priml_syntax::{Expr, ExprForm, FaultKind, Op, Outcome, Value};
 use std::alloc::{AllocError, Global};
@@ -38,6 +39,9 @@ pub fn evaluate(alloc: Global, scope: &[Value], expr: &Expr) -> Result<Option<Ou
             right(alloc, inner)
         }
         ExprForm::Op(op, a, b) => {
+            if let Some((m, n)) = numbers_at(scope, a, b) {
+                return Ok(on_numbers(*op, m, n));
+            }
             let left = evaluate(alloc, scope, a)?;
             let right = evaluate(alloc, scope, b)?;
             Ok(operated(*op, left, right))
@@ -55,7 +59,7 @@ pub(crate) fn evaluate_all(
 ) -> Result<Option<Result<Vec<Value>, FaultKind>>, AllocError>
     ensures { IfOk result (λ r. read_results r ≡ results_of (map read_value scope.now) (map read_term exprs.now)) }
 {
-    let mut values = Vec::new(alloc);
+    let mut values = Vec::with_capacity(alloc, exprs.len() + 1)?;
     let mut fault = None;
     for expr in exprs {
         match evaluate(alloc, scope, expr)? {
@@ -91,6 +95,39 @@ fn note(fault: &mut Option<FaultKind>, kind: FaultKind)
     if fault.is_none() {
         *fault = Some(kind);
     }
+}
+
+// The numbers that two expressions are without being evaluated, where both are.
+fn numbers_at(scope: &[Value], a: &Expr, b: &Expr) -> Option<(i64, i64)>
+    ensures { IfSome result (λ x. AreNumbers (map read_value scope.now) (read_term a.now) (read_term b.now) x.0 x.1) }
+{
+    match (number_at(scope, a), number_at(scope, b)) {
+        (Some(m), Some(n)) => Some((m, n)),
+        (Some(_), None) => None,
+        (None, _) => None,
+    }
+}
+
+// The number that an expression is, or that its variable holds; None where it must be evaluated.
+fn number_at(scope: &[Value], expr: &Expr) -> Option<i64>
+    ensures { IfSome result (λ n. result_of (map read_value scope.now) (read_term expr.now) ≡ Some (returned (int_value n))) }
+{
+    match &expr.form {
+        ExprForm::Int(n) => Some(*n),
+        ExprForm::Var(x) => held_number(scope, *x),
+        _ => None,
+    }
+}
+
+// The number that a variable holds.
+fn held_number(scope: &[Value], x: u32) -> Option<i64>
+    ensures { IfSome result (λ n. gave (slice_get (map read_value scope.now) x) ≡ Some (returned (int_value n))) }
+{
+    let place = x as usize;
+    if place >= scope.len() {
+        return None;
+    }
+    number(&scope[place])
 }
 
 // The value of a variable.

@@ -132,13 +132,19 @@ impl Frame {
         Ok(())
     }
 
-    /// A frame of the same scope, in a block within this frame's.
-    pub(crate) fn within(&self, alloc: Global, turn: Turn) -> Result<Frame, AllocError>
+    /// A frame of the same scope, in a block within this frame's, with room for the values of so many binds.
+    pub(crate) fn within(
+        &self,
+        alloc: Global,
+        turn: Turn,
+        binds: usize,
+    ) -> Result<Frame, AllocError>
         ensures { IfOk result (λ f. read_frame f ≡ record (read_frame self.now) { turns = self.now.turns.items ++ turn ∷ []; done = 0 }) }
     {
-        let mut turns = Vec::from_slice(alloc, &self.turns)?;
+        let mut turns = Vec::with_capacity(alloc, self.turns.len() + 1)?;
+        turns.extend_from_slice(&self.turns)?;
         turns.push(turn)?;
-        let scope = copies(alloc, &self.scope)?;
+        let scope = copies(alloc, &self.scope, binds)?;
         let prios = Vec::from_slice(alloc, &self.prios)?;
         Ok(Frame {
             root: self.root,
@@ -195,11 +201,11 @@ fn thread_of(scope: &[Value], x: u32) -> Option<&Path>
     }
 }
 
-// Equal values, in order.
-fn copies(alloc: Global, values: &[Value]) -> Result<Vec<Value>, AllocError>
+// Equal values, in order, with room for so many more.
+fn copies(alloc: Global, values: &[Value], room: usize) -> Result<Vec<Value>, AllocError>
     ensures { IfOk result (λ v. map read_value v.items ≡ map read_value values.now) }
 {
-    let mut all = Vec::new(alloc);
+    let mut all = Vec::with_capacity(alloc, values.len().saturating_add(room))?;
     for value in values {
         all.push(value.copy(alloc)?)?;
     }

@@ -8,7 +8,7 @@ use Rattle.std.proofs.lemmas.Option.{same_Some, none-some}
 use Rattle.priml_syntax.specs.declared.event.Event.{Event}
 use Rattle.priml_syntax.specs.Values.{Outcome'}
 use Rattle.priml_syntax.specs.Paths.{same_path}
-use Rattle.core_steps.specs.declared.config.Slot.{Slot}
+use Rattle.core_steps.specs.declared.slot.Slot.{Slot}
 use Rattle.core_steps.specs.declared.local.Moved.{Moved as TheMoved}
 use Rattle.core_steps.specs.Fields.{LocalFields, read_local, state_of}
 use Rattle.core_steps.specs.Locals.{IsLocal, IsFed, ended_with}
@@ -16,7 +16,7 @@ use Rattle.core_steps.specs.Moves.{Goes}
 use Rattle.core_steps.specs.Determined.{Fed, events_of}
 use Rattle.core_steps.specs.Steps.{Job, State, step, awaits, outcome_in, Ran}
 use Rattle.core_steps.specs.Config.{Thread, thread_at, handed, put, with_child, after}
-use Rattle.core_steps.specs.Configs.{SlotFields, read_slot, slot_at, slot_put, with_slot, threads_from, IsCounted, SlotsRise, AreSlots, IsTold, JoinsAt, StepsAt, Advanced, Advances}
+use Rattle.core_steps.specs.Configs.{SlotFields, read_slot, slot_at, slot_put, with_slot, threads_from, IsCounted, SlotsRise, AreSlots, IsTold, JoinsAt, StandsAt, StepsAt, Advanced, Advances}
 use Rattle.core_steps.proofs.StepLaws.{state_path}
 use Rattle.core_steps.proofs.StepFacts.{step_facts}
 use Rattle.core_steps.proofs.Threads.{found_path}
@@ -31,6 +31,9 @@ pub at_index : (xs ys : List Slot) (p : List ℕ) (i : ℕ) (s : Slot) → xs �
 at_index xs ys p i s same h e =
     let g : HoldsAt (λ (y : Slot). Some (read_slot y) ≡ slot_at (map read_slot ys) p) ys i = subst (λ zs. HoldsAt (λ (y : Slot). Some (read_slot y) ≡ slot_at (map read_slot zs) p) zs i) same h in
     sym (ap (λ y. Some (read_slot y)) e ∙ g s)
+
+pub found_there : (xs ys : List Slot) (p : List ℕ) (i : ℕ) (s : Slot) → ys ≡ xs → StandsAt xs p i → s ≡ slice_index_or ys i s → slot_at (map read_slot xs) p ≡ Some (read_slot s)
+found_there xs ys p i s same stands at = ap (λ zs. slot_at (map read_slot zs) p) (sym same) ∙ at_index xs ys p i s (sym same) stands.1 at
 
 -- what holds of each slot holds of that of a path
 pub each_slot : (P : SlotFields → Type 0) (ss : List SlotFields) (p : List ℕ) (s : SlotFields) → AllByRecursion P ss → slot_at ss p ≡ Some s → P s
@@ -87,7 +90,7 @@ module _ (job : Job) (ss : List SlotFields) (c : AreSlots job ss) (p : List ℕ)
 goes_path : (job : Job) (l : LocalFields) (w : Option Outcome') (e : Event) (child : Option LocalFields) (l' : LocalFields) → Goes job l w e child l' → l.path ≡ l'.path
 goes_path job l w e child l' g = sym (state_path job.program l g.old g.opens) ∙ (sym (step_facts job g.old w g.move g.steps).path ∙ state_path job.program l' g.move.next g.next)
 
-pub steps_at : {E : Type 0} (job : Job) (xs : List Slot) (p : List ℕ) (w : Option Outcome') (i : ℕ) (s s' : Slot) (r : Result TheMoved E) → SlotsRise (map read_slot xs) → i < length xs → s ≡ slice_index_or xs i s → slot_at (map read_slot xs) p ≡ Some (read_slot s) →
+steps_at : {E : Type 0} (job : Job) (xs : List Slot) (p : List ℕ) (w : Option Outcome') (i : ℕ) (s s' : Slot) (r : Result TheMoved E) → SlotsRise (map read_slot xs) → i < length xs → s ≡ slice_index_or xs i s → slot_at (map read_slot xs) p ≡ Some (read_slot s) →
     IfOk r (λ m. Goes job (read_local s.local) w m.event (option_map read_local m.child) (read_local s'.local)) → IfOk r (λ m. s'.events.items ≡ s.events.items ++ m.event ∷ []) → OnOk r (s'.local.steps ≡ s.local.steps + 1) → IfOk r (λ m. StepsAt job (map read_slot xs) p w m (map read_slot (slice_set xs i s')))
 steps_at job xs p w i s s' (Err e) rise l at found g es n = tt
 steps_at job xs p w i s s' (Ok m) rise l at found g es n =
@@ -100,6 +103,12 @@ steps_at job xs p w i s s' (Ok m) rise l at found g es n =
       steps = n;
       put = slot_set xs i s s' rise l (ap (λ y. y.local.path) (sym at) ∙ goes_path job (read_local s.local) w m.event (option_map read_local m.child) (read_local s'.local) g);
     }
+
+-- of whatever path that slot is
+pub steps_there : {E : Type 0} (job : Job) (xs : List Slot) (w : Option Outcome') (i : ℕ) (s s' : Slot) (r : Result TheMoved E) → SlotsRise (map read_slot xs) → i < length xs → s ≡ slice_index_or xs i s →
+    IfOk r (λ m. Goes job (read_local s.local) w m.event (option_map read_local m.child) (read_local s'.local)) → IfOk r (λ m. s'.events.items ≡ s.events.items ++ m.event ∷ []) → OnOk r (s'.local.steps ≡ s.local.steps + 1) → IfOk r (λ m. (p : List ℕ) → StandsAt xs p i → StepsAt job (map read_slot xs) p w m (map read_slot (slice_set xs i s')))
+steps_there {E} job xs w i s s' (Err e) rise l at g es n = tt
+steps_there {E} job xs w i s s' (Ok m) rise l at g es n = λ p stands. steps_at {E = E} job xs p w i s s' (Ok m) rise l at (at_index xs xs p i s refl stands.1 at) g es n
 
 pub kept_at : {X E : Type 0} (xs : List Slot) (i : ℕ) (s s' : Slot) (r : Result X E) → i < length xs → s ≡ slice_index_or xs i s → OnErr r (read_slot s' ≡ read_slot s) → OnErr r (map read_slot (slice_set xs i s') ≡ map read_slot xs)
 kept_at xs i s s' (Ok m) l at e = tt

@@ -1,5 +1,5 @@
 -- Where a slot is put in place of another, and where one is added: the slots stand for the threads among which the same is done.
-use Rattle.std.proofs.Common.{◌≡◌, ◌≢◌, ℕ, zero, suc, ◌<◌, ◌≤◌, List, [], ◌∷◌, length, map, inl, inr, ◌⊎◌, refl, sym, ◌∙◌, ap, subst, arith, Bool, true, false, if◌then◌else◌}
+use Rattle.std.proofs.Common.{◌≡◌, ◌≢◌, ℕ, zero, suc, ◌+◌, ◌<◌, ◌≤◌, List, [], ◌∷◌, length, map, inl, inr, ◌⊎◌, refl, sym, ◌∙◌, ap, subst, arith, Bool, true, false, if◌then◌else◌}
 use Rattle.std.specs.Prelude.{not, slice_index_or, slice_set}
 use Rattle.std.specs.Ordering.{nat_cmp, is_lt}
 use Rattle.std.specs.Cmp.Lexicographic.{slice_cmp}
@@ -9,10 +9,10 @@ use Rattle.std.proofs.lemmas.Bool.{cases_lt}
 use Rattle.priml_syntax.specs.Paths.{Precedes, same_path, path_lt}
 use Rattle.priml_syntax.specs.Tree.{Tree}
 use Rattle.priml_syntax.proofs.Orders.{Told, told, compare-less, compare-equal, compare-greater, irreflexive, transitive, same_path_is, same_path_refl, same_path_not}
-use Rattle.core_steps.specs.declared.config.Slot.{Slot}
+use Rattle.core_steps.specs.declared.slot.Slot.{Slot}
 use Rattle.core_steps.specs.Config.{Thread, put, added}
 use Rattle.core_steps.specs.Configs.{SlotFields, read_slot, slot_added, slot_put, SlotsRise}
-use Rattle.core_steps.proofs.Searched.{each_rises, rise_at}
+use Rattle.core_steps.proofs.Searched.{each_rises, rise_at, same_within}
 use Rattle.core_steps.proofs.Slots.{Stands, AllStand, path_stands}
 
 -- whether the slot stays before one of that path
@@ -71,6 +71,20 @@ slot_placed (x ∷ xs) p (suc i) l h s e =
   where
     chosen : path_lt s.local.path x.local.path ≡ false → slot_added (read_slot s) (read_slot x ∷ map read_slot xs) ≡ read_slot x ∷ slot_added (read_slot s) (map read_slot xs)
     chosen lt = rw lt refl
+
+lt_tells : (p q : List ℕ) → is_lt (slice_cmp nat_cmp p q) ≡ true → Precedes p q
+lt_tells p q e = subst (Told p q) (sym (lt_same p q) ∙ e) (told p q)
+
+-- behind the last one
+pub last_placed : (xs : List Slot) (p : List ℕ) (k : ℕ) (x : Slot) → SlotsRise (map read_slot xs) → k + 1 ≡ length xs → x ≡ slice_index_or xs k x → is_lt (slice_cmp nat_cmp x.local.path p) ≡ true → (s : Slot) → s.local.path ≡ p → map read_slot (insert xs (length xs) s) ≡ slot_added (read_slot s) (map read_slot xs)
+last_placed xs p k x h n at lt = slot_placed xs p (length xs) (omega arith) ((λ j d a b. stays_from p (slice_index_or xs j d).local.path (λ z. irreflexive p (transitive p (slice_index_or xs j d).local.path p z (before j d b (cases_lt j k))))), (λ j d a b. absurd (omega (arith, a, b))))
+  where
+    last : (d : Slot) → Precedes (slice_index_or xs k d).local.path p
+    last d = subst (λ (y : Slot). Precedes y.local.path p) (at ∙ same_within xs k x d (omega (arith, n))) (lt_tells x.local.path p lt)
+
+    before : (j : ℕ) (d : Slot) → j < length xs → (j < k) ⊎ (k ≤ j) → Precedes (slice_index_or xs j d).local.path p
+    before j d b (inl a) = transitive (slice_index_or xs j d).local.path (slice_index_or xs k d).local.path p (rise_at xs h j k d a (omega (arith, n))) (last d)
+    before j d b (inr a) = let e : k ≡ j = omega (arith, n, a, b) in subst (λ i. Precedes (slice_index_or xs i d).local.path p) e (last d)
 
 -- the slot at an index, in place of which another of its path is put
 put_first : (s x : SlotFields) (ss : List SlotFields) → x.local.path ≡ s.local.path → slot_put s (x ∷ ss) ≡ s ∷ ss

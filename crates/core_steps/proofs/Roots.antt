@@ -1,5 +1,5 @@
 -- The slots of the roots, made one after another.
-use Rattle.std.proofs.Common.{◌≡◌, ℕ, ◌+◌, ◌<◌, List, [], ◌∷◌, ◌++◌, Option, Some, length, refl, sym, ◌∙◌, ap, subst, arith, length-append, append_assoc, append-nil}
+use Rattle.std.proofs.Common.{◌≡◌, ℕ, ◌+◌, ◌<◌, List, [], ◌∷◌, ◌++◌, Some, length, refl, sym, ◌∙◌, ap, subst, arith, length-append, append_assoc, append-nil}
 use Rattle.std.specs.Prelude.{slice_get}
 use Rattle.std.specs.List.{AllByRecursion}
 use Rattle.std.proofs.lemmas.List.{nil_from_length}
@@ -8,7 +8,6 @@ use Rattle.core_steps.specs.Steps.{Job, root_state}
 use Rattle.core_steps.specs.Config.{Thread, roots_from, begin}
 use Rattle.core_steps.specs.Configs.{SlotFields, IsCounted, thread_of, threads_from, AreSlots}
 use Rattle.core_steps.proofs.Slots.{Stands, AllStand, stands, all_stand, all_read}
-use Rattle.core_steps.proofs.Standing.{at_place}
 use Rattle.core_steps.proofs.Starts.{starts}
 
 abbrev root_thread : Routine → ℕ → Thread

@@ -1,5 +1,5 @@
 -- What a search by halves among slots answers.
-use Rattle.std.proofs.Common.{◌≡◌, ◌≢◌, ℕ, zero, suc, ◌<◌, List, [], ◌∷◌, Some, None, length, map, refl, sym, ◌∙◌, subst, arith, true}
+use Rattle.std.proofs.Common.{◌≡◌, ◌≢◌, ℕ, zero, suc, ◌<◌, List, [], ◌∷◌, Some, None, length, map, refl, sym, ◌∙◌, ap, subst, arith, true}
 use Rattle.std.specs.Prelude.{Result, Ok, Err, IfOk, IfErr, slice_index_or}
 use Rattle.std.specs.Ordering.{nat_cmp}
 use Rattle.std.specs.Cmp.Lexicographic.{slice_cmp}
@@ -7,8 +7,8 @@ use Rattle.std.specs.List.{AllByRecursion, Contains, HoldsAt}
 use Rattle.std.specs.List.Sorted.{IsSearchInRange, IsBinarySearchResult}
 use Rattle.priml_syntax.specs.Paths.{Precedes, same_path}
 use Rattle.priml_syntax.proofs.Orders.{KeysRise, key_found, key_absent, irreflexive, same_path_refl, same_path_not}
-use Rattle.core_steps.specs.declared.config.Slot.{Slot}
-use Rattle.core_steps.specs.Configs.{SlotFields, read_slot, slot_at, SlotsRise}
+use Rattle.core_steps.specs.declared.slot.Slot.{Slot}
+use Rattle.core_steps.specs.Configs.{SlotFields, read_slot, slot_at, SlotsRise, StandsAt}
 
 pub each_rises : (q : List ℕ) (xs : List Slot) (j : ℕ) (d : Slot) → AllByRecursion (λ (s : SlotFields). Precedes q s.local.path) (map read_slot xs) → j < length xs → Precedes q (slice_index_or xs j d).local.path
 each_rises q [] j d h l = absurd (omega (arith, l))
@@ -32,6 +32,25 @@ slot_here [] p i d h l e = absurd (omega (arith, l))
 slot_here (x ∷ xs) p zero d h l e = sym (slot_first (read_slot x) (map read_slot xs) p e)
 slot_here (x ∷ xs) p (suc i) d h l e =
     slot_here xs p i d h.1 (omega (arith, l)) e ∙ sym (slot_behind (read_slot x) (map read_slot xs) p (λ s. irreflexive p (subst (λ q. Precedes q p) s (subst (Precedes x.local.path) e (each_rises x.local.path xs i d h.0 (omega (arith, l)))))))
+
+-- the default does not matter within the list
+pub same_within : (xs : List Slot) (i : ℕ) (d e : Slot) → i < length xs → slice_index_or xs i d ≡ slice_index_or xs i e
+same_within [] i d e l = absurd (omega (arith, l))
+same_within (x ∷ xs) zero d e l = refl
+same_within (x ∷ xs) (suc i) d e l = same_within xs i d e (omega (arith, l))
+
+-- the slot there is that of its path
+pub stands_there : (xs : List Slot) (p : List ℕ) (i : ℕ) (s : Slot) → SlotsRise (map read_slot xs) → i < length xs → s ≡ slice_index_or xs i s → s.local.path ≡ p → StandsAt xs p i
+stands_there xs p i s h l at e = (l, λ d. slot_here xs p i d h l (ap (λ (y : Slot). y.local.path) (same_within xs i d s l ∙ sym at) ∙ e))
+
+-- the slot at an index, and its path
+slot_there : (xs : List Slot) (i : ℕ) → i < length xs → (s : Slot) × (s ≡ slice_index_or xs i s)
+slot_there [] i l = absurd (omega (arith, l))
+slot_there (x ∷ xs) zero l = (x, refl)
+slot_there (x ∷ xs) (suc i) l = slot_there xs i (omega (arith, l))
+
+pub path_there : (xs : List Slot) (i : ℕ) → SlotsRise (map read_slot xs) → i < length xs → (p : List ℕ) × StandsAt xs p i
+path_there xs i h l = let s = slot_there xs i l in (s.0.local.path, stands_there xs s.0.local.path i s.0 h l s.1 refl)
 
 no_slot : (xs : List Slot) (p : List ℕ) → ((x : Slot) → Contains xs x → x.local.path ≢ p) → slot_at (map read_slot xs) p ≡ None
 no_slot [] p f = refl

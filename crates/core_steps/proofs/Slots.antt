@@ -1,5 +1,5 @@
 -- Slots and the threads that they stand for, one for one: which slot a path finds, their order, and which have ended.
-use Rattle.std.proofs.Common.{◌≡◌, ◌↔◌, ℕ, List, [], ◌∷◌, Option, Some, None, length, refl, sym, ◌∙◌, ap, ap₂, subst, Bool, true, false, if◌then◌else◌}
+use Rattle.std.proofs.Common.{◌≡◌, ◌↔◌, ℕ, List, [], ◌∷◌, Option, Some, None, refl, sym, ◌∙◌, ap, ap₂, subst, Bool, true, false, if◌then◌else◌}
 use Rattle.std.specs.Option.{is_some, option_and_then, option_map}
 use Rattle.std.specs.List.{AllByRecursion}
 use Rattle.std.proofs.lemmas.Option.{same_Some, none-some}
@@ -10,7 +10,7 @@ use Rattle.core_steps.specs.Fields.{LocalFields, Mode', fresh, running, failing,
 use Rattle.core_steps.specs.Locals.{ended_with}
 use Rattle.core_steps.specs.Steps.{Job, Phase, State, outcome_in}
 use Rattle.core_steps.specs.Config.{Thread, thread_at, IsFinished}
-use Rattle.core_steps.specs.Configs.{SlotFields, IsCounted, thread_of, threads_from, slot_at, SlotsRise, AreKept, AreSlots, all_end}
+use Rattle.core_steps.specs.Configs.{SlotFields, thread_of, threads_from, slot_at, SlotsRise, AreKept, AreSlots, all_end}
 use Rattle.core_steps.proofs.StepLaws.{state_path, live_phase}
 use Rattle.core_steps.proofs.Standing.{ended_state}
 use Rattle.core_steps.proofs.Moves.{in_phase}

@@ -1,13 +1,13 @@
 -- The slots of a configuration as plain data, the threads that they stand for, and what the calls of a configuration say.
-use Rattle.std.specs.Prelude.{◌≡◌, ℕ, Bool, true, false, if◌then◌else◌, ◌+◌, ◌≤◌, List, [], ◌∷◌, ◌++◌, Option, Some, None, Result, Ok, Err, length, map}
+use Rattle.std.specs.Prelude.{◌≡◌, ℕ, Bool, true, false, if◌then◌else◌, ◌+◌, ◌<◌, ◌≤◌, List, [], ◌∷◌, ◌++◌, Option, Some, None, Result, Ok, Err, length, map}
 use Rattle.std.specs.Option.{is_some, option_and_then, option_map}
-use Rattle.std.specs.List.{AllByRecursion}
+use Rattle.std.specs.List.{AllByRecursion, HoldsAt}
 use Rattle.priml_syntax.specs.declared.event.Event.{Event}
 use Rattle.priml_syntax.specs.Tree.{Tree}
 use Rattle.priml_syntax.specs.Values.{Outcome', Entry}
 use Rattle.priml_syntax.specs.Records.{work}
 use Rattle.priml_syntax.specs.Paths.{same_path, path_lt, Precedes}
-use Rattle.core_steps.specs.declared.config.Slot.{Slot}
+use Rattle.core_steps.specs.declared.slot.Slot.{Slot}
 use Rattle.core_steps.specs.declared.config.CoreStop.{CoreStop}
 use Rattle.core_steps.specs.declared.config.CoreStop.TheVariants.{NoThread, Ended, Waits, OutOfMemory}
 use Rattle.priml_syntax.specs.declared.value.Outcome.{Outcome}
@@ -48,6 +48,10 @@ threads_of p c = threads_from p (slots_of c)
 abbrev pub slot_at : List SlotFields → List ℕ → Option SlotFields
 slot_at [] p = None
 slot_at (s ∷ ss) p = if same_path s.local.path p then Some s else slot_at ss p
+
+-- it stands at this place
+abbrev pub StandsAt : List Slot → List ℕ → ℕ → Type 0
+StandsAt c p i = (i < length c) × HoldsAt (λ (s : Slot). Some (read_slot s) ≡ slot_at (slots_of c) p) c i
 
 -- in the order of paths, no path twice
 abbrev pub SlotsRise : List SlotFields → Type 0

@@ -10,8 +10,10 @@ mod join;
 mod kinds;
 mod laws;
 mod local;
+mod lookup;
 mod numbers;
 mod place;
+mod slot;
 mod step;
 
 pub use config::{Config, CoreStop};

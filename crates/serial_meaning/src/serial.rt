@@ -57,7 +57,7 @@ pub fn meaning(alloc: Global, job: &Job, limit: u64) -> Result<Records, MeaningS
     let mut config = Config::start(alloc, job)?;
     let mut active = roots(alloc, job)?;
     run(&mut config, &mut active, alloc, job, limit)?;
-    match config.records(alloc)? {
+    match config.into_records(alloc)? {
         Some(records) => Ok(records),
         None => unreachable!(),
     }

@@ -2,39 +2,32 @@ use Rattle.std.proofs.Common.{rules, ◌≡◌, map, sym, ◌∙◌, ap, subst}
 use Rattle.std.specs.Prelude.{Err}
 use Rattle.core_steps.specs.Configs.{IsEnded, IsGivenIn, SlotsRise, outcome_of, read_slot, slot_at, slots_of}
 use Rattle.core_steps.specs.Moves.{job_of}
-use Rattle.core_steps.proofs.Choices.{handed_none, handed_ended, handed_free, handed_awaits, handed_stops}
+use Rattle.core_steps.proofs.Advanced.{found_there}
+use Rattle.core_steps.proofs.Choices.{handed_ended, handed_free, handed_awaits, handed_stops}
 use Rattle.core_steps.proofs.config.Config.handed.Goals as goal
 
-pub find-requires : goal.find-requires
-find-requires c = subst (λ xs. SlotsRise (map read_slot xs)) (sym c.deref.ensures.value) c.self.invariant.rise
-
 pub ended-requires : goal.ended-requires
-ended-requires c = subst (λ xs. SlotsRise (map read_slot xs)) (sym c.deref-in-Awaits.ensures.value) c.self.invariant.rise
+ended-requires c = subst (λ xs. SlotsRise (map read_slot xs)) (sym c.deref.ensures.value) c.self.invariant.rise
 
 pub returns-in_err-ended-in-Awaits : goal.returns-in_err-ended-in-Awaits
 returns-in_err-ended-in-Awaits c =
     let why = c.in_err-ended-in-Awaits.field-0.0 in
     let is : c.from_residual.result ≡ Err why = search rules in
-    λ ts reads. subst (IsGivenIn ts c.args.path.now) (sym is)
-    (handed_stops (job_of c.args.job.now) (slots_of c.args.self.now) c.args.path.now c.in-Awaits.awaited.now (read_slot c.in-Some.slot.now) why
-    (ap (λ xs. slot_at (map read_slot xs) c.args.path.now) (sym (c.deref.ensures.value ∙ c.self.view_is)) ∙ sym c.in-Some.ensures) c.in-Awaits.ensures
-    (subst (λ xs. IsEnded (map read_slot xs) c.in-Awaits.awaited.now (Err why)) (c.deref-in-Awaits.ensures.value ∙ c.self.view_is) c.in_err-ended-in-Awaits.ensures) ts reads)
+    λ p stands ts reads. subst (IsGivenIn ts p) (sym is)
+    (handed_stops (job_of c.args.job.now) (slots_of c.args.self.now) p c.in-Awaits.awaited.now (read_slot c.index.result.now) why
+    (found_there c.args.self.now _ p c.args.at c.index.result.now c.self.view_is stands c.index.ensures) c.in-Awaits.ensures
+    (subst (λ xs. IsEnded (map read_slot xs) c.in-Awaits.awaited.now (Err why)) (c.deref.ensures.value ∙ c.self.view_is) c.in_err-ended-in-Awaits.ensures) ts reads)
 
 pub returns-in-Free : goal.returns-in-Free
-returns-in-Free c =
-    handed_free (job_of c.args.job.now) (slots_of c.args.self.now) c.args.path.now (read_slot c.in-Some.slot.now)
-    (ap (λ xs. slot_at (map read_slot xs) c.args.path.now) (sym (c.deref.ensures.value ∙ c.self.view_is)) ∙ sym c.in-Some.ensures) c.in-Free.ensures
+returns-in-Free c = λ p stands.
+    handed_free (job_of c.args.job.now) (slots_of c.args.self.now) p (read_slot c.index.result.now) (found_there c.args.self.now _ p c.args.at c.index.result.now c.self.view_is stands c.index.ensures) c.in-Free.ensures
 
 pub returns-in_ok-ended-in-Awaits : goal.returns-in_ok-ended-in-Awaits
-returns-in_ok-ended-in-Awaits c =
-    handed_awaits (job_of c.args.job.now) (slots_of c.args.self.now) c.args.path.now c.in-Awaits.awaited.now (read_slot c.in-Some.slot.now) c.in_ok-ended-in-Awaits.field-0
-    (ap (λ xs. slot_at (map read_slot xs) c.args.path.now) (sym (c.deref.ensures.value ∙ c.self.view_is)) ∙ sym c.in-Some.ensures) c.in-Awaits.ensures
-    (let e = c.in_ok-ended-in-Awaits.ensures in (e.0, ap (λ xs. outcome_of (slot_at (map read_slot xs) c.in-Awaits.awaited.now)) (sym (c.deref-in-Awaits.ensures.value ∙ c.self.view_is)) ∙ e.1))
+returns-in_ok-ended-in-Awaits c = λ p stands.
+    handed_awaits (job_of c.args.job.now) (slots_of c.args.self.now) p c.in-Awaits.awaited.now (read_slot c.index.result.now) c.in_ok-ended-in-Awaits.field-0
+    (found_there c.args.self.now _ p c.args.at c.index.result.now c.self.view_is stands c.index.ensures) c.in-Awaits.ensures
+    (let e = c.in_ok-ended-in-Awaits.ensures in (e.0, ap (λ xs. outcome_of (slot_at (map read_slot xs) c.in-Awaits.awaited.now)) (sym (c.deref.ensures.value ∙ c.self.view_is)) ∙ e.1))
 
 pub returns-in-Ended : goal.returns-in-Ended
-returns-in-Ended c =
-    handed_ended (job_of c.args.job.now) (slots_of c.args.self.now) c.args.path.now (read_slot c.in-Some.slot.now)
-    (ap (λ xs. slot_at (map read_slot xs) c.args.path.now) (sym (c.deref.ensures.value ∙ c.self.view_is)) ∙ sym c.in-Some.ensures) c.in-Ended.ensures
-
-pub returns-in-None : goal.returns-in-None
-returns-in-None c = handed_none (job_of c.args.job.now) (slots_of c.args.self.now) c.args.path.now (ap (λ xs. slot_at (map read_slot xs) c.args.path.now) (sym (c.deref.ensures.value ∙ c.self.view_is)) ∙ sym c.in-None.ensures)
+returns-in-Ended c = λ p stands.
+    handed_ended (job_of c.args.job.now) (slots_of c.args.self.now) p (read_slot c.index.result.now) (found_there c.args.self.now _ p c.args.at c.index.result.now c.self.view_is stands c.index.ensures) c.in-Ended.ensures

@@ -3,9 +3,9 @@ use Rattle.std.specs.List.Sorted.{IsBinarySearchResult}
 use Rattle.std.specs.Ordering.{nat_cmp}
 use Rattle.std.specs.Cmp.Lexicographic.{slice_cmp}
 use Rattle.std.proofs.lemmas.Fn.{always_returns_same}
-use Rattle.core_steps.specs.declared.config.Slot.{Slot}
+use Rattle.core_steps.specs.declared.slot.Slot.{Slot}
 use Rattle.core_steps.proofs.Searched.{slot_found, slot_absent}
-use Rattle.core_steps.proofs.config.search.Goals as goal
+use Rattle.core_steps.proofs.lookup.search.Goals as goal
 
 by_path : (c : goal.After-binary_search_by) → IsBinarySearchResult (λ (s : Slot). slice_cmp nat_cmp s.local.path c.args.path.now) c.args.slots.now c.binary_search_by.result
 by_path c = c.binary_search_by.ensures.position (λ (s : Slot). slice_cmp nat_cmp s.local.path c.args.path.now) (always_returns_same _ _ _ (λ a r g called. (search rules, search rules)))

@@ -1,5 +1,5 @@
 use Rattle.std.proofs.Common.{◌≡◌, take}
-use Rattle.core_steps.proofs.config.copies.Given as goal
+use Rattle.core_steps.proofs.slot.copies.Given as goal
 
 abbrev pub invariant-loop-event : goal.invariant-loop-event
 invariant-loop-event l = l.all.items ≡ take l.event-index l.events

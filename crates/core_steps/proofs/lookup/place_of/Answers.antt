@@ -1,7 +1,7 @@
 use Rattle.std.proofs.Common.{rules}
 use Rattle.std.proofs.lemmas.List.Sorted.{IsPartitionPoint-from_clause}
 use Rattle.core_steps.proofs.Placed.{stays_before, stay_first, slot_placed}
-use Rattle.core_steps.proofs.config.place_of.Goals as goal
+use Rattle.core_steps.proofs.lookup.place_of.Goals as goal
 
 pub returns-clause-place : goal.returns-clause-place
 returns-clause-place c =

@@ -1,19 +1,16 @@
 -- Each thread of a graph without cycles has a work and a span.
-use Rattle.std.proofs.Common.{◌≡◌, ℕ, zero, suc, ◌+◌, ◌-◌, ◌<◌, ◌≤◌, ◌↔◌, ◌⊎◌, Bool, true, false, List, [], ◌∷◌, length, take, get_or, set, replicate, refl, sym, ap, ◌∙◌, subst, inl, inr, arith}
+use Rattle.std.proofs.Common.{◌≡◌, ℕ, zero, suc, ◌+◌, ◌-◌, ◌<◌, ◌≤◌, ◌↔◌, ◌⊎◌, Bool, true, false, List, [], ◌∷◌, length, get_or, set, replicate, refl, sym, ap, ◌∙◌, subst, inl, inr, arith}
 use Rattle.std.specs.List.{Contains}
 use Rattle.std.proofs.lemmas.Bool.{cases_eq, cases_lt, cases_Bool, both_ways}
 use Rattle.std.proofs.lemmas.List.{length-replicate}
-use Rattle.std.proofs.lemmas.List.Elements.{Contains-get_or}
 use Rattle.std.proofs.Math.Seq.{take-length}
-use Rattle.priority_order.specs.Order.{IsBelow}
 use Rattle.priority_order.proofs.Decided.{below_or_not}
-use Rattle.cost_graph.specs.Graph.{CostGraph, Edge, vertex_total, thread_total, thread_at, vertex_priority, first_vertex, last_vertex, parents_at, children_at, IsGraph, IsAcyclic, IsProperAncestor}
+use Rattle.cost_graph.specs.Graph.{CostGraph, vertex_total, thread_total, thread_at, vertex_priority, first_vertex, last_vertex, parents_at, children_at, IsGraph, IsAcyclic, IsProperAncestor}
 use Rattle.cost_graph.specs.Order.{IsTopological, HasWay, AreMarked}
 use Rattle.cost_graph.proofs.Above.{IsAbove, above_on, above_start, above_end, IsBeneath, beneath_on, beneath_start, beneath_end, order_below}
 use Rattle.cost_graph.proofs.Ends.{last_below}
 use Rattle.cost_graph.proofs.Members.{no_member, member_cons, member_head, member_tail}
 use Rattle.cost_graph.proofs.Ordered.{ordered_acyclic}
-use Rattle.span_bound.specs.Level.{IsLevel}
 use Rattle.span_bound.specs.Work.{IsCount, Competes, IsWork, IsSpan}
 use Rattle.span_bound.proofs.Counts.{count_start, count_yes, count_no, count_end}
 use Rattle.span_bound.proofs.Longest.{IsBuilt, turn, turn_skipped}

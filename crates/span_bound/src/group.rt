@@ -6,10 +6,12 @@ ghost use Rattle.cost_graph.specs.Order.{IsTopological};
 ghost use Rattle.span_bound.specs.declared.size.Measure.{Measure as TheMeasure};
 ghost use Rattle.span_bound.specs.Work.{AreMeasures, IsMeasure};
 ghost use Rattle.span_bound.specs.Words.{places_in};
+ghost use Rattle.span_bound.specs.Inside.Segments.{AreSegments};
 
 use crate::competitors::{competitors_of_each, counts_of_each};
 use crate::kin::{ancestors_of_each, descendants_of_each};
 use crate::level_of_each::levels_of_each;
+use crate::segments::{Segments, images_of, segments_of};
 use crate::size::Measure;
 use cost_graph::Graph;
 use priority_order::Order;
@@ -76,11 +78,11 @@ pub(crate) fn measure_each(
     alloc: Global,
     graph: &Graph,
     order: &Order,
-    along: &Vec<u32>,
+    segments: &Segments,
     threads: &[u32],
 ) -> Result<Vec<Measure>, AllocError>
     requires acyclic { IsAcyclic graph.now }
-    requires along { IsTopological graph.now along.now.items }
+    requires segments { AreSegments graph.now segments.now }
     requires few { length threads.now ≤ 64 }
     requires threads { All (λ t. t < thread_total graph.now) threads.now }
     requires priorities { All (λ (t : TheThread). t.priority < length order.now.names) graph.now.threads }
@@ -89,12 +91,13 @@ pub(crate) fn measure_each(
     let _count = graph.vertex_count();
     let firsts = firsts_of(alloc, graph, threads)?;
     let lasts = lasts_of(alloc, graph, threads)?;
-    let above = ancestors_of_each(alloc, graph, along, &firsts)?;
-    let beneath = descendants_of_each(alloc, graph, along, &lasts)?;
-    let rows = levels_of_each(alloc, graph, along, &above)?;
-    let words = competitors_of_each(alloc, graph, order, threads, &above, &beneath)?;
-    let counts = counts_of_each(&words);
-    let measures = measures_of(alloc, &counts, &rows, &lasts)?;
+    let above = ancestors_of_each(alloc, graph, segments, &firsts)?;
+    let beneath = descendants_of_each(alloc, graph, segments, &lasts)?;
+    let rows = levels_of_each(alloc, graph, segments, &above)?;
+    let words = competitors_of_each(alloc, graph, order, segments, threads, &above, &beneath)?;
+    let counts = counts_of_each(graph, segments, &words);
+    let places = images_of(alloc, &segments.slots, &lasts)?;
+    let measures = measures_of(alloc, &counts, &rows, &places)?;
     Ok(measures)
 }
 
@@ -144,12 +147,13 @@ pub fn measure_all(
     ensures each { IfOk result (λ measures. (t : ℕ) (d : TheMeasure) → t < thread_total graph.now → IsMeasure graph.now order.now.pairs t (slice_index_or measures.items t d)) }
 {
     let total = graph.thread_count();
+    let segments = segments_of(alloc, graph, along)?;
     let mut measures = Vec::new(alloc);
     let mut done = 0u32;
     'groups: while done < total {
         let width = width_of(total - done);
         let threads = numbers_from(alloc, done, width)?;
-        let group = measure_each(alloc, graph, order, along, &threads)?;
+        let group = measure_each(alloc, graph, order, &segments, &threads)?;
         append(&mut measures, &group)?;
         done += width;
     }

@@ -1,10 +1,11 @@
-ghost use Rattle.std.specs.Prelude.{◌≡◌, ℕ, ◌<◌, ◌≤◌, ◌↔◌, length, slice_index, IfOk};
+ghost use Rattle.std.specs.Prelude.{◌≡◌, ℕ, ◌<◌, ◌≤◌, ◌↔◌, length, get_or, slice_index, IfOk};
 ghost use Rattle.std.specs.List.{All};
 ghost use Rattle.std.specs.Int.{bit_at};
 ghost use Rattle.cost_graph.specs.Graph.{vertex_total, IsAcyclic, IsProperAncestor};
-ghost use Rattle.cost_graph.specs.Order.{IsTopological};
 ghost use Rattle.span_bound.specs.Words.{AreMarkedForEach, HasBit};
+ghost use Rattle.span_bound.specs.Inside.Segments.{AreSegments, last_of, spread};
 
+use crate::segments::{Segments, images_of};
 use cost_graph::Graph;
 use std::alloc::{AllocError, Global};
 
@@ -37,51 +38,60 @@ fn joined(words: &Vec<u64>, own: &Vec<u64>, vertices: &[u32]) -> u64
     word
 }
 
-/// Bit i of the word of a vertex is 1 exactly where it is a proper ancestor of the i-th of the targets, at most 64.
+/// Bit i of the word of a segment is 1 exactly where its vertices are proper ancestors of the i-th of the targets, at most 64,
+/// each the first vertex of a segment.
 pub(crate) fn ancestors_of_each(
     alloc: Global,
     graph: &Graph,
-    order: &[u32],
+    segments: &Segments,
     targets: &[u32],
 ) -> Result<Vec<u64>, AllocError>
-    requires order { IsTopological graph.now order.now }
+    requires segments { AreSegments graph.now segments.now }
     requires acyclic { IsAcyclic graph.now }
     requires few { length targets.now ≤ 64 }
     requires within { All (λ t. t < vertex_total graph.now) targets.now }
-    ensures { IfOk result (λ words. AreMarkedForEach graph.now (length targets.now) (λ i v. IsProperAncestor graph.now v (slice_index targets.now i)) words.items) }
+    requires first { All (λ t. get_or segments.now.heads.items (get_or segments.now.slots.items t 0) 0 ≡ t) targets.now }
+    ensures long { IfOk result (λ words. length words.items ≡ length segments.now.heads.items) }
+    ensures are { IfOk result (λ words. AreMarkedForEach graph.now (length targets.now) (λ i v. IsProperAncestor graph.now v (slice_index targets.now i)) (spread segments.now.slots.items words.items)) }
 {
-    let count = graph.vertex_count();
-    let own = places_of(alloc, count, targets)?;
-    let mut words = vec![in alloc; 0u64; count as usize]?;
-    let mut place = order.len();
+    let _total = graph.vertex_count();
+    let count = segments.heads.len();
+    let places = images_of(alloc, &segments.slots, targets)?;
+    let own = places_of(alloc, count as u32, &places)?;
+    let mut words = vec![in alloc; 0u64; count]?;
+    let mut place = count;
     'places: while place > 0 {
         place -= 1;
-        let vertex = order[place];
-        let above = joined(&words, &own, graph.children_of(vertex));
-        words[vertex as usize] = above;
+        let above = joined(&words, &own, &segments.children[place]);
+        words[place] = above;
     }
     Ok(words)
 }
 
-/// Bit i of the word of a vertex is 1 exactly where it is a proper descendant of the i-th of the sources, at most 64.
+/// Bit i of the word of a segment is 1 exactly where its vertices are proper descendants of the i-th of the sources, at most 64,
+/// each the last vertex of a segment.
 pub(crate) fn descendants_of_each(
     alloc: Global,
     graph: &Graph,
-    order: &[u32],
+    segments: &Segments,
     sources: &[u32],
 ) -> Result<Vec<u64>, AllocError>
-    requires order { IsTopological graph.now order.now }
+    requires segments { AreSegments graph.now segments.now }
     requires acyclic { IsAcyclic graph.now }
     requires few { length sources.now ≤ 64 }
     requires within { All (λ s. s < vertex_total graph.now) sources.now }
-    ensures { IfOk result (λ words. AreMarkedForEach graph.now (length sources.now) (λ i v. IsProperAncestor graph.now (slice_index sources.now i) v) words.items) }
+    requires last { All (λ s. last_of segments.now.heads.items segments.now.lens.items (get_or segments.now.slots.items s 0) ≡ s) sources.now }
+    ensures long { IfOk result (λ words. length words.items ≡ length segments.now.heads.items) }
+    ensures are { IfOk result (λ words. AreMarkedForEach graph.now (length sources.now) (λ i v. IsProperAncestor graph.now (slice_index sources.now i) v) (spread segments.now.slots.items words.items)) }
 {
-    let count = graph.vertex_count();
-    let own = places_of(alloc, count, sources)?;
-    let mut words = vec![in alloc; 0u64; count as usize]?;
-    for vertex in order {
-        let beneath = joined(&words, &own, graph.parents_of(*vertex));
-        words[*vertex as usize] = beneath;
+    let _total = graph.vertex_count();
+    let count = segments.heads.len();
+    let places = images_of(alloc, &segments.slots, sources)?;
+    let own = places_of(alloc, count as u32, &places)?;
+    let mut words = vec![in alloc; 0u64; count]?;
+    for place in 0..count {
+        let beneath = joined(&words, &own, &segments.parents[place]);
+        words[place] = beneath;
     }
     Ok(words)
 }

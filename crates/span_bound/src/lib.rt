@@ -6,6 +6,7 @@ mod group;
 mod kin;
 mod level;
 mod level_of_each;
+mod segments;
 mod size;
 mod thread;
 

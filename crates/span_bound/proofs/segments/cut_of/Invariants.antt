@@ -1,0 +1,5 @@
+use Rattle.span_bound.specs.Inside.Segments.{IsCutSoFar}
+use Rattle.span_bound.proofs.segments.cut_of.Given as goal
+
+abbrev pub invariant-loop-place : goal.invariant-loop-place
+invariant-loop-place l = IsCutSoFar l.graph l.along l.place l.heads.items l.lens.items l.slots.items

@@ -13,7 +13,7 @@ use Rattle.source_reader.specs.Gives.{First}
 use Rattle.source_reader.specs.Known.{env_in}
 use Rattle.source_reader.specs.Bodies.{raw_body_of}
 use Rattle.source_reader.proofs.RawBlocks.{raw_tail_of, opened, next_item, no_item}
-use Rattle.source_reader.proofs.Lists.{gives_first, gives_second, handed_on, full}
+use Rattle.source_reader.proofs.Lists.{gives_first, handed_on, handed_first, handed_second, full}
 use Rattle.source_reader.proofs.Walk.{passed, regrouped, made_more, kept_push, code_first, deeper}
 use Rattle.source_reader.proofs.block.+resolve.Goals as goal
 
@@ -121,47 +121,22 @@ action_of-returns-in_err-own-in-Spawn-clause-gives t c =
 
 pub form_of-returns-in_err-e-in-If-clause-gives : goal.form_of-returns-in_err-e-in-If-clause-gives
 form_of-returns-in_err-e-in-If-clause-gives t c =
-    let env = env_in c.args.names.now in
-    let scope = c.args.scope.now.items in
-    let test = read_expr c.in-If.e in
-    let a = code_faults (read_block c.in-If.a.value) env scope in
-    let b = code_faults (read_block c.in-If.b.value) env scope in
-    let e = c.in_err-e-in-If.field-0.0 in
-    let first : First (term_faults env test scope) e = subst (λ z. First (term_faults env test z) e) c.deref-in-If.ensures.value c.in_err-e-in-If.ensures in
-    rw c.in-If.is (handed_on _ _ _ e _ c.from_residual-in_err-e-in-If.ensures.1 (gives_first _ (term_faults env test scope) (a ++ b) e refl first))
+    rw c.in-If.is (handed_first c.deref-in-If.ensures.value _ (term_faults (env_in c.args.names.now) (read_expr c.in-If.e)) (code_faults (read_block c.in-If.a.value) (env_in c.args.names.now) c.args.scope.now.items ++ code_faults (read_block c.in-If.b.value) (env_in c.args.names.now) c.args.scope.now.items)
+    _ _ c.in_err-e-in-If.field-0.0 _ refl c.from_residual-in_err-e-in-If.ensures.1 c.in_err-e-in-If.ensures)
 
 pub form_of-returns-in_err-a-in-If-clause-gives : goal.form_of-returns-in_err-a-in-If-clause-gives
 form_of-returns-in_err-a-in-If-clause-gives t c =
-    let env = env_in c.args.names.now in
-    let scope = c.args.scope.now.items in
-    let test = read_expr c.in-If.e in
-    let a = code_faults (read_block c.in-If.a.value) env scope in
-    let b = code_faults (read_block c.in-If.b.value) env scope in
-    let e = c.in_err-a-in-If.field-0.0 in
-    let none : term_faults env test scope ≡ [] = subst (λ z. term_faults env test z ≡ []) c.deref-in-If.ensures.value c.in_ok-e-in-If.ensures.0 in
-    let first : First a e = subst (λ z. First (code_faults (read_block z) env scope) e) c.deref-in-If-2.ensures c.in_err-a-in-If.ensures.gives in
-    rw c.in-If.is (handed_on _ _ _ e _ c.from_residual-in_err-a-in-If.ensures.1 (gives_second _ (term_faults env test scope) a b e refl none first))
+    let none = subst (λ z. term_faults (env_in c.args.names.now) (read_expr c.in-If.e) z ≡ []) c.deref-in-If.ensures.value c.in_ok-e-in-If.ensures.0 in
+    rw c.in-If.is (handed_second c.deref-in-If-2.ensures _ (term_faults (env_in c.args.names.now) (read_expr c.in-If.e) c.args.scope.now.items) (λ z. code_faults (read_block z) (env_in c.args.names.now) c.args.scope.now.items) (code_faults (read_block c.in-If.b.value) (env_in c.args.names.now) c.args.scope.now.items)
+    _ _ c.in_err-a-in-If.field-0.0 _ refl none c.from_residual-in_err-a-in-If.ensures.1 c.in_err-a-in-If.ensures.gives)
 
 pub form_of-returns-in_err-e-in-Case-clause-gives : goal.form_of-returns-in_err-e-in-Case-clause-gives
 form_of-returns-in_err-e-in-Case-clause-gives t c =
-    let env = env_in c.args.names.now in
-    let scope = c.args.scope.now.items in
-    let test = read_expr c.in-Case.e in
-    let a = scope_faults c.in-Case.m scope ++ code_faults (read_block c.in-Case.a.value) env (scope ++ c.in-Case.m.id ∷ []) in
-    let b = scope_faults c.in-Case.n scope ++ code_faults (read_block c.in-Case.b.value) env (scope ++ c.in-Case.n.id ∷ []) in
-    let e = c.in_err-e-in-Case.field-0.0 in
-    let first : First (term_faults env test scope) e = subst (λ z. First (term_faults env test z) e) c.deref-in-Case.ensures.value c.in_err-e-in-Case.ensures in
-    rw c.in-Case.is (handed_on _ _ _ e _ c.from_residual-in_err-e-in-Case.ensures.1 (gives_first _ (term_faults env test scope) (a ++ b) e refl first))
+    rw c.in-Case.is (handed_first c.deref-in-Case.ensures.value _ (term_faults (env_in c.args.names.now) (read_expr c.in-Case.e)) ((scope_faults c.in-Case.m c.args.scope.now.items ++ code_faults (read_block c.in-Case.a.value) (env_in c.args.names.now) (c.args.scope.now.items ++ c.in-Case.m.id ∷ [])) ++ (scope_faults c.in-Case.n c.args.scope.now.items ++ code_faults (read_block c.in-Case.b.value) (env_in c.args.names.now) (c.args.scope.now.items ++ c.in-Case.n.id ∷ [])))
+    _ _ c.in_err-e-in-Case.field-0.0 _ refl c.from_residual-in_err-e-in-Case.ensures.1 c.in_err-e-in-Case.ensures)
 
 pub form_of-returns-in_err-a-in-Case-clause-gives : goal.form_of-returns-in_err-a-in-Case-clause-gives
 form_of-returns-in_err-a-in-Case-clause-gives t c =
-    let env = env_in c.args.names.now in
-    let scope = c.args.scope.now.items in
-    let test = read_expr c.in-Case.e in
-    let m = c.in-Case.m in
-    let a = scope_faults m scope ++ code_faults (read_block c.in-Case.a.value) env (scope ++ m.id ∷ []) in
-    let b = scope_faults c.in-Case.n scope ++ code_faults (read_block c.in-Case.b.value) env (scope ++ c.in-Case.n.id ∷ []) in
-    let e = c.in_err-a-in-Case.field-0.0 in
-    let none : term_faults env test scope ≡ [] = subst (λ z. term_faults env test z ≡ []) c.deref-in-Case.ensures.value c.in_ok-e-in-Case.ensures.0 in
-    let first : First a e = subst (λ z. First (scope_faults m scope ++ code_faults (read_block z) env (scope ++ m.id ∷ [])) e) c.deref-in-Case-2.ensures c.in_err-a-in-Case.ensures.gives in
-    rw c.in-Case.is (handed_on _ _ _ e _ c.from_residual-in_err-a-in-Case.ensures.1 (gives_second _ (term_faults env test scope) a b e refl none first))
+    let none = subst (λ z. term_faults (env_in c.args.names.now) (read_expr c.in-Case.e) z ≡ []) c.deref-in-Case.ensures.value c.in_ok-e-in-Case.ensures.0 in
+    rw c.in-Case.is (handed_second c.deref-in-Case-2.ensures _ (term_faults (env_in c.args.names.now) (read_expr c.in-Case.e) c.args.scope.now.items) (λ z. scope_faults c.in-Case.m c.args.scope.now.items ++ code_faults (read_block z) (env_in c.args.names.now) (c.args.scope.now.items ++ c.in-Case.m.id ∷ [])) (scope_faults c.in-Case.n c.args.scope.now.items ++ code_faults (read_block c.in-Case.b.value) (env_in c.args.names.now) (c.args.scope.now.items ++ c.in-Case.n.id ∷ []))
+    _ _ c.in_err-a-in-Case.field-0.0 _ refl none c.from_residual-in_err-a-in-Case.ensures.1 c.in_err-a-in-Case.ensures.gives)

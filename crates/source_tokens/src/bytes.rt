@@ -48,11 +48,7 @@ fn separators_len(text: &[u8]) -> usize
     ensures value { result ≡ prefix_len is_separator text.now }
     ensures within { result ≤ length text.now }
 {
-    let mut len = 0;
-    while len < text.len() && is_separator(text[len]) {
-        len += 1;
-    }
-    len
+    text.iter().take_while(|b| is_separator(**b)).count()
 }
 
 /// What is left of a text behind comments and separators, by a look at each byte.
@@ -92,22 +88,14 @@ fn is_part(byte: u8) -> bool
 pub(crate) fn word_len(bytes: &[u8]) -> usize
     ensures { result ≡ prefix_len is_part bytes.now }
 {
-    let mut len = 0;
-    while len < bytes.len() && is_part(bytes[len]) {
-        len += 1;
-    }
-    len
+    bytes.iter().take_while(|b| is_part(**b)).count()
 }
 
 /// How many digits stand at the front.
 pub(crate) fn digits_len(bytes: &[u8]) -> usize
     ensures { result ≡ prefix_len is_digit bytes.now }
 {
-    let mut len = 0;
-    while len < bytes.len() && is_digit(bytes[len]) {
-        len += 1;
-    }
-    len
+    bytes.iter().take_while(|b| is_digit(**b)).count()
 }
 
 /// The value of digits, if it is below two to the 63.

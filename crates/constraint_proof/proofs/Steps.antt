@@ -14,7 +14,7 @@ use Rattle.std.proofs.lemmas.List.Sums.{sum_by-set}
 use Rattle.std.proofs.lemmas.Option.{slice_get-get_or, get_or_from_slice_get, slice_get_within}
 use Rattle.priml_syntax.specs.declared.prio.Prio.{Prio}
 use Rattle.priority_order.specs.Order.{Pair, IsWithin}
-use Rattle.priority_order.proofs.Lists.{contains_at, at_contained, slice_get-push}
+use Rattle.priority_order.proofs.Lists.{contains_at, at_contained, each_behind-push}
 use Rattle.constraint_proof.specs.declared.derivation.Rule.TheVariants.{Reflexive, Transitive}
 use Rattle.constraint_proof.specs.declared.derivation.Step.{Step}
 use Rattle.constraint_proof.specs.declared.derivation.Derivation.{Derivation}
@@ -87,13 +87,7 @@ module _ (pairs : List Pair) (given : List Constraint) where
   all_fit-none k s e = absurd (let l = slice_get_within [] k s e in omega arith)
 
   pub all_fit-push : (steps : List Step) (s : Step) → AllFit pairs given steps → StepFits pairs given steps s → AllFit pairs given (steps ++ s ∷ [])
-  all_fit-push steps s fits here k t e = by_cases (slice_get-push steps s k t e)
-    where
-      by_cases : ((k < length steps) × (slice_get steps k ≡ Some t)) ⊎ ((k ≡ length steps) × (s ≡ t)) → StepFits pairs given (take k (steps ++ s ∷ [])) t
-      by_cases (inl h) = subst (λ before. StepFits pairs given before t) (sym (take-append-le k steps (s ∷ []) (let l = h.0 in omega arith))) (fits k t h.1)
-      by_cases (inr h) =
-          let seam : take k (steps ++ s ∷ []) ≡ steps = ap (λ n. take n (steps ++ s ∷ [])) h.0 ∙ take-append_seam steps (s ∷ []) in
-          subst (λ before. StepFits pairs given before t) (sym seam) (subst (λ x. StepFits pairs given steps x) h.1 here)
+  all_fit-push steps s fits here = each_behind-push (StepFits pairs given) steps fits s here
 
   module _ (start : Prio) (count : ℕ) where
     -- a table with one more step, for the priority y

@@ -1,10 +1,11 @@
 -- Elements by their places.
-use Rattle.std.proofs.Common.{◌≡◌, ◌≢◌, ℕ, ◌+◌, ◌<◌, true, false, List, [], ◌∷◌, ◌++◌, Some, length, get_or, sym, ap, ◌∙◌, ◌⊎◌, inl, inr, arith}
+use Rattle.std.proofs.Common.{◌≡◌, ◌≢◌, ℕ, ◌+◌, ◌<◌, true, false, List, [], ◌∷◌, ◌++◌, Some, length, get_or, take, sym, ap, subst, ◌∙◌, ◌⊎◌, inl, inr, arith}
 use Rattle.std.specs.Prelude.{slice_get}
 use Rattle.std.specs.List.{Contains}
 use Rattle.std.proofs.Math.Dec.{eqb}
+use Rattle.std.proofs.Math.Seq.{take-append_seam}
 use Rattle.std.proofs.lemmas.Bool.Decides.{eqb_tells}
-use Rattle.std.proofs.lemmas.List.{length-append, get_or_append_left, get_or_push}
+use Rattle.std.proofs.lemmas.List.{length-append, take-append-le, get_or_append_left, get_or_push}
 use Rattle.std.proofs.lemmas.Option.{slice_get-get_or, get_or_from_slice_get, slice_get_within}
 
 pub contains_at : {X : Type 0} (xs : List X) (k : ℕ) (x : X) → slice_get xs k ≡ Some x → Contains xs x
@@ -28,3 +29,14 @@ slice_get-push xs y k x e = by_place (eqb_tells k (length xs))
     by_place (inr p) =
         let l : k < length xs = let w = within in let ne = p.1 in omega arith in
         inl (l, slice_get-get_or xs k x l ∙ ap Some (sym (get_or_append_left xs (y ∷ []) x k l) ∙ is))
+
+-- what holds of each element and those before it, where it holds of one more and all
+pub each_behind-push : {X : Type 0} (P : List X → X → Type 0) (xs : List X) → ((k : ℕ) (x : X) → slice_get xs k ≡ Some x → P (take k xs) x) → (y : X) → P xs y
+    → (k : ℕ) (x : X) → slice_get (xs ++ y ∷ []) k ≡ Some x → P (take k (xs ++ y ∷ [])) x
+each_behind-push {X} P xs each y here k x e = by_cases (slice_get-push xs y k x e)
+  where
+    by_cases : ((k < length xs) × (slice_get xs k ≡ Some x)) ⊎ ((k ≡ length xs) × (y ≡ x)) → P (take k (xs ++ y ∷ [])) x
+    by_cases (inl h) = subst (λ front. P front x) (sym (take-append-le k xs (y ∷ []) (let l = h.0 in omega arith))) (each k x h.1)
+    by_cases (inr h) =
+        let seam : take k (xs ++ y ∷ []) ≡ xs = ap (λ n. take n (xs ++ y ∷ [])) h.0 ∙ take-append_seam xs (y ∷ []) in
+        subst (λ front. P front x) (sym seam) (subst (P xs) h.1 here)

@@ -1,19 +1,21 @@
 -- The lanes: there are some, they are one list, and each priority has one.
-use Rattle.std.proofs.Common.{◌≡◌, ◌≢◌, ℕ, zero, suc, ◌<◌, ◌≤◌, List, [], ◌∷◌, ◌++◌, Some, length, get_or, take, refl, sym, ap, ◌∙◌, subst, ◌⊎◌, inl, inr, arith}
+use Rattle.std.proofs.Common.{◌≡◌, ◌≢◌, ℕ, zero, suc, ◌<◌, ◌≤◌, List, [], ◌∷◌, ◌++◌, Some, length, get_or, take, map, string_bytes, refl, sym, ap, ◌∙◌, subst, ◌⊎◌, inl, inr, arith}
 use Rattle.std.specs.Prelude.{slice_get}
 use Rattle.std.specs.List.{Contains, AllPairs}
-use Rattle.std.proofs.Math.Seq.{take-append_seam, take-suc}
+use Rattle.std.proofs.Math.Seq.{take-suc}
 use Rattle.std.proofs.lemmas.Bool.{cases_lt}
 use Rattle.std.proofs.lemmas.Bool.Decides.{eqb_tells, Decides-eqb}
-use Rattle.std.proofs.lemmas.List.{take_all, take-append-le, length-append, length-take-le, get_or-take}
+use Rattle.std.proofs.lemmas.List.{take_all, length-append, length-map, length-take-le, get_or-take}
 use Rattle.std.proofs.lemmas.List.Elements.{Contains-push_cases}
 use Rattle.std.proofs.lemmas.List.Quantifiers.{all_pairs_push}
 use Rattle.std.proofs.lemmas.Map.Made.{IsDistinct-from_AllPairs}
 use Rattle.std.proofs.lemmas.Map.Steps.{length-le_from_distinct_below, le-length_from_below}
 use Rattle.std.proofs.lemmas.Option.{slice_get-get_or, get_or_from_slice_get, slice_get_within}
-use Rattle.priority_order.specs.Order.{Pair, IsBelow, IsLawful, Remains, IsNext, AreLanes, HasLane}
+use Rattle.std.specs.declared.string.String.{String}
+use Rattle.std.specs.declared.alloc.Global.{Global}
+use Rattle.priority_order.specs.Order.{Pair, Names, IsBelow, IsLawful, Remains, IsNext, AreLanes, HasLane}
 use Rattle.priority_order.proofs.Decided.{has, contains_or_not}
-use Rattle.priority_order.proofs.Lists.{at_contained, slice_get-push}
+use Rattle.priority_order.proofs.Lists.{at_contained, each_behind-push}
 use Rattle.priority_order.proofs.Tops.{Top, top_below}
 
 module _ (ps : List Pair) (count : ℕ) where
@@ -41,13 +43,7 @@ module _ (ps : List Pair) (count : ℕ) where
   each_next-none k a e = absurd (let l = slice_get_within [] k a e in omega arith)
 
   pub each_next-push : (lanes : List ℕ) → EachNext lanes → (a : ℕ) → IsNext ps count lanes a → EachNext (lanes ++ a ∷ [])
-  each_next-push lanes each a next k b e = by_cases (slice_get-push lanes a k b e)
-    where
-      by_cases : ((k < length lanes) × (slice_get lanes k ≡ Some b)) ⊎ ((k ≡ length lanes) × (a ≡ b)) → IsNext ps count (take k (lanes ++ a ∷ [])) b
-      by_cases (inl h) = subst (λ gone. IsNext ps count gone b) (sym (take-append-le k lanes (a ∷ []) (let l = h.0 in omega arith))) (each k b h.1)
-      by_cases (inr h) =
-          let seam : take k (lanes ++ a ∷ []) ≡ lanes = ap (λ n. take n (lanes ++ a ∷ [])) h.0 ∙ take-append_seam lanes (a ∷ []) in
-          subst (λ gone. IsNext ps count gone b) (sym seam) (subst (λ x. IsNext ps count lanes x) h.1 next)
+  each_next-push lanes each a next = each_behind-push (IsNext ps count) lanes each a next
 
   module _ (lanes : List ℕ) (are : AreLanes ps count lanes) where
     next_at : (k : ℕ) → k < length lanes → (d : ℕ) → IsNext ps count (take k lanes) (get_or lanes k d)
@@ -148,3 +144,12 @@ module _ (ps : List Pair) (count : ℕ) where
     priority_within = (are.each k a e).remains.0;
     above = λ b j h below. lower_later lanes are a b k j e (stands lanes are b j h) below;
   }
+
+-- the same of the names and pairs that an order stands for
+module _ (names : List (String Global)) (pairs : List Pair) (e : Names) (is : record { names = map string_bytes names; pairs = pairs } ≡ e) where
+  pub as_many : length names ≡ length e.names
+  as_many = sym (length-map names string_bytes) ∙ ap (λ (x : Names). length x.names) is
+
+  pub placed_named : (lanes : List ℕ) → AreLanes pairs (length names) lanes → (a k : ℕ) → slice_get lanes k ≡ Some a → IsPlaced e.pairs (length e.names) a k
+  placed_named lanes are a k at =
+      subst (λ (x : Names). IsPlaced x.pairs (length x.names) a k) is (subst (λ n. IsPlaced pairs n a k) (sym (length-map names string_bytes)) (placed pairs (length names) lanes are a k at))

@@ -27,22 +27,14 @@ run-requires-clause-search c =
 
 pub returns-clause-some : goal.returns-clause-some
 returns-clause-some c =
-    let n = length c.args.order.now.names in
-    let steps = c.run.new.self.steps.items in
-    let reached = c.run.new.self.reached.items in
-    let at = c.number_of.ensures ∙ ap (λ k. number k c.args.goal.1) c.count-count.ensures.value in
-    found_accepted c.args.order.now.pairs c.args.given.now c.args.goal.0 n steps reached c.in_ok-run.ensures.search c.args.goal.1 c.requires.right c.derivation_of.result
-    (subst (λ k. Kept steps reached k c.derivation_of.result) at c.derivation_of.ensures)
+    found_accepted c.args.order.now.pairs c.args.given.now c.args.goal.0 _ _ _ c.in_ok-run.ensures.search c.args.goal.1 c.requires.right c.derivation_of.result
+    (subst (λ k. Kept c.run.new.self.steps.items c.run.new.self.reached.items k c.derivation_of.result) (c.number_of.ensures ∙ ap (λ k. number k c.args.goal.1) c.count-count.ensures.value) c.derivation_of.ensures)
 
 pub returns-clause-none : goal.returns-clause-none
 returns-clause-none c =
-    let n = length c.args.order.now.names in
-    let steps = c.run.new.self.steps.items in
-    let reached = c.run.new.self.reached.items in
-    let at = c.number_of.ensures ∙ ap (λ k. number k c.args.goal.1) c.count-count.ensures.value in
-    found_exact c.args.order.now.pairs c.args.given.now c.args.goal.0 n steps reached c.in_ok-run.ensures.search c.in_ok-run.ensures.closed c.args.goal.1 c.requires.right
+    found_exact c.args.order.now.pairs c.args.given.now c.args.goal.0 _ _ _ c.in_ok-run.ensures.search c.in_ok-run.ensures.closed c.args.goal.1 c.requires.right
     (λ e. absurd (let s = c.same.ensures.1 e in let f = c.if-same.false in cc)) c.derivation_of.result
-    (subst (λ k. Kept steps reached k c.derivation_of.result) at c.derivation_of.ensures)
+    (subst (λ k. Kept c.run.new.self.steps.items c.run.new.self.reached.items k c.derivation_of.result) (c.number_of.ensures ∙ ap (λ k. number k c.args.goal.1) c.count-count.ensures.value) c.derivation_of.ensures)
 
 pub returns-clause-short : goal.returns-clause-short
 returns-clause-short c =

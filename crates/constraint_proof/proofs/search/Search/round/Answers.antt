@@ -7,17 +7,13 @@ use Rattle.constraint_proof.proofs.search.Search.round.Goals as goal
 
 pub follow-requires-clause-left : goal.follow-requires-clause-left
 follow-requires-clause-left c =
-    let n = length c.args.order.now.names in
-    let e = c.edge_at.result in
-    let v = valid_at n c.args.order.now.pairs c.args.given.now (subst (IsWithin n) c.pairs.ensures.value c.pairs.ensures.within) c.requires.given c.loop-i.i (e.left, e.right) c.edge_at.ensures.is in
-    subst (λ k. IsValid k e.left) (sym c.count-count.ensures.value) v.0
+    subst (λ k. IsValid k c.edge_at.result.left) (sym c.count-count.ensures.value)
+    (valid_at _ _ c.args.given.now (subst (IsWithin _) c.pairs.ensures.value c.pairs.ensures.within) c.requires.given c.loop-i.i _ c.edge_at.ensures.is).0
 
 pub follow-requires-clause-right : goal.follow-requires-clause-right
 follow-requires-clause-right c =
-    let n = length c.args.order.now.names in
-    let e = c.edge_at.result in
-    let v = valid_at n c.args.order.now.pairs c.args.given.now (subst (IsWithin n) c.pairs.ensures.value c.pairs.ensures.within) c.requires.given c.loop-i.i (e.left, e.right) c.edge_at.ensures.is in
-    subst (λ k. IsValid k e.right) (sym c.count-count.ensures.value) v.1
+    subst (λ k. IsValid k c.edge_at.result.right) (sym c.count-count.ensures.value)
+    (valid_at _ _ c.args.given.now (subst (IsWithin _) c.pairs.ensures.value c.pairs.ensures.within) c.requires.given c.loop-i.i _ c.edge_at.ensures.is).1
 
 pub loop-i-preserved : goal.loop-i-preserved
 loop-i-preserved c =

@@ -91,7 +91,8 @@ abbrev mutual
   body_faults (give at e) env scope = term_faults env e scope
   body_faults (branch at e a b) env scope = term_faults env e scope ++ (code_faults a env scope ++ code_faults b env scope)
   body_faults (split at e m a n b) env scope =
-      term_faults env e scope ++ ((scope_faults m scope ++ code_faults a env (scope ++ m.id ∷ [])) ++ (scope_faults n scope ++ code_faults b env (scope ++ n.id ∷ [])))
+      term_faults env e scope
+      ++ ((scope_faults m scope ++ code_faults a env (scope ++ m.id ∷ [])) ++ (scope_faults n scope ++ code_faults b env (scope ++ n.id ∷ [])))
 
   -- a block inside a block sees the scope at its place
   pub act_faults : RawAct → Env → List ℕ → List Fault
@@ -108,27 +109,41 @@ abbrev pub vars_faults : List Name → List ℕ → List Fault
 vars_faults [] before = []
 vars_faults (n ∷ ns) before = again_faults n before 8 PrioVars ++ vars_faults ns (before ++ n.id ∷ [])
 
+-- a constraint, behind so many
+abbrev pub given_faults : Env → Name × Name → ℕ → List Fault
+given_faults env g before = prio_faults env g.0 ++ (room_faults g.0.at before 16 Constraints ++ prio_faults env g.1)
+
 -- constraints, behind so many
 abbrev pub givens_faults : Env → List (Name × Name) → ℕ → List Fault
 givens_faults env [] before = []
-givens_faults env (g ∷ gs) before = (prio_faults env g.0 ++ (room_faults g.0.at before 16 Constraints ++ prio_faults env g.1)) ++ givens_faults env gs (before + 1)
+givens_faults env (g ∷ gs) before = given_faults env g before ++ givens_faults env gs (before + 1)
 
 -- parameters, behind these
 abbrev pub params_faults : Env → List Parameter → List ℕ → List Fault
 params_faults env [] before = []
 params_faults env (p ∷ ps) before = (again_faults p.name before 8 Parameters ++ written_faults env p.ty) ++ params_faults env ps (before ++ p.name.id ∷ [])
 
+-- a routine behind its parameters: its priority, its result and its body
+abbrev pub routine_faults : Env → RawRoutine → List ℕ → List Fault
+routine_faults env r params = prio_faults env r.own ++ (written_faults env r.result ++ code_faults r.body env params)
+
+-- a procedure behind its priority variables, which are known
+abbrev pub inside_faults : Env → RawProcedure → List Fault
+inside_faults env f = givens_faults env f.given 0 ++ (params_faults env f.params [] ++ routine_faults env f.routine (param_ids f.params))
+
 -- a procedure behind its name
 abbrev pub procedure_faults : Env → RawProcedure → List Fault
-procedure_faults outer f =
-    let env = with_vars outer f.vars in
-    vars_faults f.vars [] ++ (givens_faults env f.given 0 ++ (params_faults env f.params [] ++ (prio_faults env f.routine.own ++ (written_faults env f.routine.result ++ code_faults f.routine.body env (param_ids f.params)))))
+procedure_faults outer f = vars_faults f.vars [] ++ inside_faults (with_vars outer f.vars) f
+
+-- a declaration, behind these names of priorities, so many pairs and these names of procedures
+abbrev pub declared_faults : Env → Declaration → List ℕ → ℕ → List ℕ → List Fault
+declared_faults env (priority n) names pairs called = again_faults n names 16 Priorities
+declared_faults env (order at m n) names pairs called = room_faults at pairs 256 Pairs ++ (prio_faults env m ++ prio_faults env n)
+declared_faults env (procedure f) names pairs called = again_faults f.name called 256 Procedures ++ procedure_faults env f
 
 -- a declaration, behind those before it
 abbrev pub decl_faults : Env → Declaration → List Declaration → List Fault
-decl_faults env (priority n) before = again_faults n (priorities before) 16 Priorities
-decl_faults env (order at m n) before = room_faults at (pairs_in before) 256 Pairs ++ (prio_faults env m ++ prio_faults env n)
-decl_faults env (procedure f) before = again_faults f.name (procedures before) 256 Procedures ++ procedure_faults env f
+decl_faults env d before = declared_faults env d (priorities before) (pairs_in before) (procedures before)
 
 -- declarations, behind those before them
 abbrev pub decls_faults : Env → List Declaration → List Declaration → List Fault
@@ -136,7 +151,7 @@ decls_faults env [] before = []
 decls_faults env (d ∷ ds) before = decl_faults env d before ++ decls_faults env ds (before ++ d ∷ [])
 
 abbrev pub main_faults : Env → RawRoutine → List Fault
-main_faults env m = prio_faults env m.own ++ (written_faults env m.result ++ code_faults m.body env [])
+main_faults env m = routine_faults env m []
 
 -- the faults of a program. Priorities and procedures are known wherever in the text they are declared
 abbrev pub faults : RawTree → List Fault

@@ -6,7 +6,6 @@ pub mod Gives
 pub mod Narrow
 pub mod Known
 pub mod Bodies
-pub mod Parts
 pub mod Order
 pub mod Stands
 pub mod Laws

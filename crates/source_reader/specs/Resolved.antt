@@ -44,7 +44,8 @@ abbrev mutual
   body_meant (bind n at a rest) env scope = tree.bind at (act_meant a env scope) (body_meant rest env (scope ++ n.id ∷ []))
   body_meant (give at e) env scope = tree.give at (term_meant env e scope)
   body_meant (branch at e a b) env scope = tree.branch at (term_meant env e scope) (code_meant a env scope) (code_meant b env scope)
-  body_meant (split at e m a n b) env scope = tree.split at (term_meant env e scope) (code_meant a env (scope ++ m.id ∷ [])) (code_meant b env (scope ++ n.id ∷ []))
+  body_meant (split at e m a n b) env scope =
+      tree.split at (term_meant env e scope) (code_meant a env (scope ++ m.id ∷ [])) (code_meant b env (scope ++ n.id ∷ []))
 
   pub act_meant : RawAct → Env → List ℕ → Act
   act_meant (ret e) env scope = tree.ret (term_meant env e scope)
@@ -61,14 +62,26 @@ given_meant env g = (prio_of env g.0.id, prio_of env g.1.id)
 abbrev pub param_meant : Env → Parameter → Type'
 param_meant env p = type_meant env p.ty.ty
 
+-- a routine with these variables, constraints and parameters
+abbrev pub routine_meant : Env → List Name → List (Name × Name) → List Parameter → RawRoutine → Routine
+routine_meant env vars given params r = record {
+  at = r.at;
+  declares = record {
+    vars = length vars;
+    given = map (given_meant env) given;
+    params = map (param_meant env) params;
+    own = prio_of env r.own.id;
+    gives = type_meant env r.result.ty;
+  };
+  body = code_meant r.body env (param_ids params);
+}
+
+-- a procedure whose priority variables are known
+abbrev pub inside_meant : Env → RawProcedure → Routine
+inside_meant env f = routine_meant env f.vars f.given f.params f.routine
+
 abbrev pub proc_meant : Env → RawProcedure → Routine
-proc_meant outer f =
-    let env = with_vars outer f.vars in
-    record {
-      at = f.routine.at;
-      declares = record { vars = length f.vars; given = map (given_meant env) f.given; params = map (param_meant env) f.params; own = prio_of env f.routine.own.id; gives = type_meant env f.routine.result.ty };
-      body = code_meant f.routine.body env (param_ids f.params);
-    }
+proc_meant outer f = inside_meant (with_vars outer f.vars) f
 
 -- the procedures, in order
 abbrev pub procs_meant : Env → List Declaration → List Routine
@@ -86,7 +99,7 @@ pairs_meant prios (procedure f ∷ ds) = pairs_meant prios ds
 
 -- a main is a routine without priority variables, constraints and parameters
 abbrev pub main_meant : Env → RawRoutine → Routine
-main_meant env m = record { at = m.at; declares = record { vars = 0; given = []; params = []; own = prio_of env m.own.id; gives = type_meant env m.result.ty }; body = code_meant m.body env [] }
+main_meant env m = routine_meant env [] [] [] m
 
 -- what a program means, by the spellings of the distinct names of its text
 abbrev pub resolved : List (List ℕ) → RawTree → Tree

@@ -44,16 +44,20 @@ pub record IsFirst (f : Fault) (fs : List Fault) : Type 0 where
 -- program, its names and limits are looked at.
 pub data IsFaultOf (text : List ℕ) : SourceFault → Type 0 where
   -- all tokens before the byte begin some program
-  bad_byte : {tokens : List Token} {names : List (List ℕ)} (at : ℕ) → IsLexed text tokens names (stop.BadByte at) → Viable (kinds tokens) → IsFaultOf text (BadByte at)
+  bad_byte : {tokens : List Token} {names : List (List ℕ)} (at : ℕ) → IsLexed text tokens names (stop.BadByte at)
+      → Viable (kinds tokens) → IsFaultOf text (BadByte at)
   -- all tokens before the number begin some program
-  bad_number : {tokens : List Token} {names : List (List ℕ)} (at : ℕ) → IsLexed text tokens names (stop.BadNumber at) → Viable (kinds tokens) → IsFaultOf text (BadNumber at)
+  bad_number : {tokens : List Token} {names : List (List ℕ)} (at : ℕ) → IsLexed text tokens names (stop.BadNumber at)
+      → Viable (kinds tokens) → IsFaultOf text (BadNumber at)
   -- the tokens up to the bracket, and with it, begin some program
-  too_deep : {tokens : List Token} {names : List (List ℕ)} (at : ℕ) → IsLexed text tokens names (stop.TooDeep at) → Viable (kinds tokens) → IsFaultOf text (TooDeep at)
+  too_deep : {tokens : List Token} {names : List (List ℕ)} (at : ℕ) → IsLexed text tokens names (stop.TooDeep at)
+      → Viable (kinds tokens) → IsFaultOf text (TooDeep at)
   -- a token with which the text leaves the grammar
   unexpected : {tokens : List Token} {names : List (List ℕ)} {end : Stop} (n : ℕ) (t : Token) → IsLexed text tokens names end
       → IsUnexpected tokens n → slice_get tokens n ≡ Some t → IsFaultOf text (Unexpected t.at)
   -- all tokens begin some program, and are none
-  cut_off : {tokens : List Token} {names : List (List ℕ)} → IsLexed text tokens names stop.Done → IsUnexpected tokens (length tokens) → IsFaultOf text (Unexpected (length text))
+  cut_off : {tokens : List Token} {names : List (List ℕ)} → IsLexed text tokens names stop.Done
+      → IsUnexpected tokens (length tokens) → IsFaultOf text (Unexpected (length text))
   -- the first fault of names and limits
   of_names : {tokens : List Token} {names : List (List ℕ)} {raw : RawTree} (f : Fault) → IsLexed text tokens names stop.Done → IsProgram tokens raw
       → IsFirst f (faults raw) → IsFaultOf text (as_source f)

@@ -2,9 +2,8 @@ use Rattle.std.proofs.Common.{◌∙◌, ◌++◌, ◌∷◌, [], ◌+◌, lengt
 use Rattle.priml_syntax.specs.Read.{read_pair, read_proc}
 use Rattle.source_grammar.specs.RawRead.{read_decl}
 use Rattle.source_reader.specs.Names.{priorities, procedures}
-use Rattle.source_reader.specs.Faults.{decl_faults, decls_faults}
+use Rattle.source_reader.specs.Faults.{decl_faults, decls_faults, declared_faults}
 use Rattle.source_reader.specs.Resolved.{pairs_meant, procs_meant}
-use Rattle.source_reader.specs.Parts.{declared_faults}
 use Rattle.source_reader.specs.Gives.{First}
 use Rattle.source_reader.specs.Known.{env_in}
 use Rattle.source_reader.proofs.Lists.{gives_first, found_first}

@@ -2,10 +2,9 @@ use Rattle.std.proofs.Common.{◌≡◌, ◌++◌, [], map, refl, subst}
 use Rattle.source_grammar.specs.RawRead.{read_param}
 use Rattle.source_grammar.specs.RawRead.{read_proc as read_raw_proc}
 use Rattle.source_reader.specs.Names.{param_ids}
-use Rattle.source_reader.specs.Faults.{prio_faults, written_faults, code_faults, givens_faults, params_faults}
+use Rattle.source_reader.specs.Faults.{prio_faults, written_faults, code_faults, givens_faults, params_faults, inside_faults}
 use Rattle.source_reader.specs.Gives.{First}
 use Rattle.source_reader.specs.Known.{env_in}
-use Rattle.source_reader.specs.Parts.{inside_faults}
 use Rattle.source_reader.proofs.Lists.{gives_first, gives_second, handed_on}
 use Rattle.source_reader.proofs.Declarations.{past}
 use Rattle.source_reader.proofs.procedure.inside.Goals as goal

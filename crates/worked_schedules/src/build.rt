@@ -170,8 +170,8 @@ fn is_within(count: usize, pair: &(u32, u32)) -> bool
     (pair.1 as usize) < count
 }
 
-// Whether each record stands before the next.
-fn are_in_order(list: &[Record]) -> bool
+/// Whether each record stands before the next.
+pub(crate) fn are_in_order(list: &[Record]) -> bool
     ensures { IsTrue result → InPathOrder (map read_record list.now) }
 {
     for next in 1..list.len() {

@@ -6,6 +6,8 @@ mod build;
 #[cfg(test)]
 mod parents;
 #[cfg(test)]
+mod roots;
+#[cfg(test)]
 mod schedules;
 #[cfg(test)]
 mod sizes;

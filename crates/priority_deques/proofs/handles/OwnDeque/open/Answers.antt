@@ -1,0 +1,5 @@
+use Rattle.priority_deques.proofs.Moves.{begins}
+use Rattle.priority_deques.proofs.handles.OwnDeque.open.Goals as goal
+
+pub fifo_as-requires : goal.fifo_as-requires
+fifo_as-requires c = begins

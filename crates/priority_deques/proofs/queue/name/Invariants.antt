@@ -1,0 +1,5 @@
+use Rattle.priority_deques.specs.Rule.{newcomer}
+use Rattle.priority_deques.proofs.queue.name.Given as goal
+
+abbrev pub ghosts-name_as : goal.ghosts-name_as
+ghosts-name_as a = record { named = newcomer a._job.now a._lane }

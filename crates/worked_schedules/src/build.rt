@@ -37,16 +37,6 @@ pub(crate) struct Scene {
     ghost priorities: { All (λ (t : TheThread). t.priority < length order.names) graph.threads },
 }
 
-/// The scene of the rows, over the order of these names and pairs.
-pub(crate) fn make_scene(
-    alloc: Global,
-    rows: &[Row],
-    names: &[&str],
-    pairs: &[(u32, u32)],
-) -> Result<Scene, Fail> {
-    scene_of(alloc, records_of(alloc, rows)?, names, pairs)
-}
-
 /// The records of the rows.
 pub(crate) fn records_of(alloc: Global, rows: &[Row]) -> Result<Vec<Record>, Fail> {
     let mut list = Vec::new(alloc);

@@ -11,5 +11,3 @@ mod roots;
 mod schedules;
 #[cfg(test)]
 mod sizes;
-#[cfg(test)]
-mod texts;

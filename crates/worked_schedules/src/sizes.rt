@@ -3,12 +3,11 @@ ghost use Rattle.std.specs.Prelude.{IsTrue};
 ghost use Rattle.cost_graph.specs.Graph.{IsWellFormed};
 
 use crate::build::{Scene, ended, path_of, scene_of};
-use crate::schedules::{plan_of, sizes};
+use crate::schedules::sizes;
 use priml_syntax::{Event, Record};
-use prompt_checker::{Verdict, judge};
 use prompt_planner::plan;
-use response_report::{ReportStop, Row, rows};
-use std::alloc::{AllocError, Global};
+use response_report::{Row, rows};
+use std::alloc::Global;
 use std::test::Fail;
 
 // How the threads of a large graph join one another: the root joins each child, or each child joins the one before and
@@ -75,29 +74,6 @@ fn rows_of(alloc: Global, scene: &Scene) -> Result<Vec<Row>, Fail> {
     Ok(rows(alloc, &scene.graph, &scene.order, 1, &plan)?)
 }
 
-// On one core the plan has a step for each vertex.
-#[test]
-fn plans_of_large_graphs(rt: HostRuntime) -> Result<(), Fail> {
-    // 1,300 children of 75 events
-    let cases = [(Shape::Fan, 100_102), (Shape::Chain, 98_803)];
-    for (shape, vertices) in cases {
-        let scene = large(rt.alloc(), shape, 1_300, 75)?;
-        assert_eq!(rt; scene.graph.vertex_count(), vertices);
-        let steps = plan_steps(rt.alloc(), &scene)?;
-        assert_eq!(rt; steps, Some(vertices as usize));
-    }
-    Ok(())
-}
-
-// How many steps the plan on one core has, where the judge finds it prompt.
-fn plan_steps(alloc: Global, scene: &Scene) -> Result<Option<usize>, AllocError> {
-    let plan = plan_of(alloc, scene, 1)?;
-    match judge(alloc, &scene.graph, &scene.order, 1, &plan)? {
-        Verdict::Prompt => Ok(Some(plan.steps.len())),
-        Verdict::Flaw(_) => Ok(None),
-    }
-}
-
 // On one core the root's response is the number of vertices, and so are its work and its bound.
 #[test]
 fn reports_of_large_graphs(rt: HostRuntime) -> Result<(), Fail> {
@@ -153,17 +129,5 @@ fn joined_often(rt: HostRuntime) -> Result<(), Fail> {
     for (row, want) in rows.iter().zip(wants) {
         assert_eq!(rt; sizes(row), want);
     }
-    Ok(())
-}
-
-// 1,351 threads and 103,952 vertices are too many for rows.
-#[test]
-fn too_large_for_rows(rt: HostRuntime) -> Result<(), Fail> {
-    let scene = large(rt.alloc(), Shape::Fan, 1_350, 75)?;
-    assert_eq!(rt; scene.graph.vertex_count(), 103_952);
-    let plan = plan(rt.alloc(), &scene.graph, &scene.order, 1)?;
-    assert!(rt; has_one_priority(&scene));
-    let stop = rows(rt.alloc(), &scene.graph, &scene.order, 1, &plan).err();
-    assert!(rt; matches!(stop, Some(ReportStop::TooLarge)));
     Ok(())
 }

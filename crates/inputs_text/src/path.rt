@@ -34,7 +34,8 @@ fn is_path(parts: &[u32]) -> bool
 fn read_parts(alloc: Global, text: &[u8]) -> Result<Option<Vec<u32>>, AllocError>
     ensures { IfOk result (λ r. MatchOption r ((p : List ℕ) → ¬ Pairwise IsPartText (between_dots text.now) p) (λ v. Pairwise IsPartText (between_dots text.now) v.items)) }
 {
-    let mut parts = Vec::new(alloc);
+    // a part takes two bytes, but for the last
+    let mut parts = Vec::with_capacity(alloc, (text.len() / 2 + 1).min(32))?;
     for part in text.split(|b| *b == b'.') {
         let Some(number) = read_part(part) else {
             return Ok(None);

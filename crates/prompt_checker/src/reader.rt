@@ -1,6 +1,6 @@
-ghost use Rattle.std.specs.Prelude.{◌≡◌, ◌<◌, ◌∷◌, ◌++◌, [], map, Some, None, OnOk, IfOk, IfErr, MatchOption};
+ghost use Rattle.std.specs.Prelude.{◌≡◌, ℕ, ◌<◌, ◌∷◌, ◌++◌, [], map, Some, None, OnOk, IfOk, IfErr, IfSome, MatchOption};
 ghost use Rattle.std.specs.List.{All, Contains};
-ghost use Rattle.cost_graph.specs.Graph.{vertex_total};
+ghost use Rattle.cost_graph.specs.Graph.{vertex_total, thread_total, IsVertexAt};
 ghost use Rattle.priml_io.specs.Lines.{lines};
 ghost use Rattle.inputs_text.specs.PathText.{Pairwise};
 ghost use Rattle.inputs_text.specs.InputLines.{words_of};
@@ -51,7 +51,7 @@ pub fn read_schedule(alloc: Global, text: &[u8], graph: &Graph) -> Result<Schedu
     let mut rest = text;
     'lines: while !rest.is_empty() {
         let (line, after) = next_line(rest);
-        let step = read_step(alloc, graph, steps.len() as u64 + 1, line)?;
+        let step = read_step(alloc, graph, steps.len() as u64 + 1, line, last_of(&steps))?;
         add_step(&mut steps, step)?;
         rest = after;
     }
@@ -66,17 +66,27 @@ fn add_step(steps: &mut Vec<Vec<u32>>, step: Vec<u32>) -> Result<(), AllocError>
     Ok(())
 }
 
-// Reads the line of this number.
+// The last of the steps, and an empty one where there is none.
+fn last_of(steps: &Vec<Vec<u32>>) -> &[u32] {
+    match steps.last() {
+        Some(step) => step.as_slice(),
+        None => &[],
+    }
+}
+
+// Reads the line of this number. Its vertices are the sooner found the more of them stand in the order of the step
+// before, where each stands for its thread.
 fn read_step(
     alloc: Global,
     graph: &Graph,
     number: u64,
     line: &[u8],
+    before: &[u32],
 ) -> Result<Vec<u32>, ScheduleFault>
     ensures ok { IfOk result (λ s. IsStepLine graph.now line.now s.items) }
     ensures fault { IfErr result (StopsAt graph.now number line.now) }
 {
-    let Some(looks) = look_up_all(alloc, graph, line)? else {
+    let Some(looks) = look_up_all(alloc, graph, line, before)? else {
         return Err(ScheduleFault::BadText(number));
     };
     let Some(step) = all_found(alloc, &looks)? else {
@@ -90,12 +100,14 @@ fn look_up_all(
     alloc: Global,
     graph: &Graph,
     line: &[u8],
+    before: &[u32],
 ) -> Result<Option<Vec<Option<u32>>>, AllocError>
     ensures { IfOk result (λ r. MatchOption r (IsBadLine line.now) (λ v. Pairwise (IsLook graph.now) (words_of line.now) v.items)) }
 {
     let mut looks = Vec::new(alloc);
+    let mut at = 0;
     for word in line.split(|b| is_blank(*b)).filter(|word| !word.is_empty()) {
-        let Some(look) = look_up(alloc, graph, word)? else {
+        let Some(look) = look_up(alloc, graph, word, before, &mut at)? else {
             return Ok(None);
         };
         looks.push(look)?;
@@ -104,13 +116,51 @@ fn look_up_all(
 }
 
 // The word's vertex, if the graph has it; None where the word has not the form of a vertex.
-fn look_up(alloc: Global, graph: &Graph, word: &[u8]) -> Result<Option<Option<u32>>, AllocError>
+fn look_up(
+    alloc: Global,
+    graph: &Graph,
+    word: &[u8],
+    before: &[u32],
+    at: &mut usize,
+) -> Result<Option<Option<u32>>, AllocError>
     ensures { IfOk result (λ r. MatchOption r (IsBadWord word.now) (IsLook graph.now word.now)) }
 {
     let Some((path, number)) = read_vertex(alloc, word)? else {
         return Ok(None);
     };
-    Ok(Some(graph.find(&path, number)))
+    Ok(Some(find_near(graph, &path, number, before, at)))
+}
+
+// The vertex with this number of the thread with this path; None where there is no such vertex. The threads of a few
+// vertices of `before` from place `at` on are tried first; behind one that has the path the next search begins.
+fn find_near(graph: &Graph, path: &Path, number: u32, before: &[u32], at: &mut usize) -> Option<u32>
+    ensures { MatchOption result ((v : ℕ) → IsVertexAt graph.now path.now number v → ⊥) (IsVertexAt graph.now path.now number) }
+{
+    let end = before.len().min(at.saturating_add(4));
+    for place in *at..end {
+        if let Some(vertex) = find_beside(graph, path, number, before[place]) {
+            *at = place + 1;
+            return Some(vertex);
+        }
+    }
+    graph.find(path, number)
+}
+
+// The vertex with this number of the thread of this vertex, where that has this path.
+fn find_beside(graph: &Graph, path: &Path, number: u32, vertex: u32) -> Option<u32>
+    ensures { IfSome result (IsVertexAt graph.now path.now number) }
+{
+    if vertex >= graph.vertex_count() {
+        return None;
+    }
+    let thread = graph.thread_of(vertex);
+    if graph.path_of(thread).parts() != path.parts() {
+        return None;
+    }
+    if number >= graph.vertices_of(thread) {
+        return None;
+    }
+    Some(graph.first_of(thread) + number)
 }
 
 // The vertices, where each was found.

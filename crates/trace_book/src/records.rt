@@ -6,7 +6,7 @@ ghost use Rattle.trace_book.specs.Book.{entry_of, entries_of};
 ghost use Rattle.trace_book.specs.Inside.Books.{IsPushed, seen};
 
 use crate::log::ThreadLog;
-use priml_syntax::{Event, Record};
+use priml_syntax::{Record, copy_events};
 use std::alloc::{AllocError, Global};
 
 // Appends the records of these logs, and tells whether each thread has ended.
@@ -33,7 +33,7 @@ fn record_of(alloc: Global, log: &ThreadLog) -> Result<Option<Record>, AllocErro
     match log.outcome() {
         Some(outcome) => {
             let path = log.path().copy(alloc)?;
-            let events = copies(alloc, log.events())?;
+            let events = copy_events(alloc, log.events())?;
             let outcome = outcome.copy(alloc)?;
             Ok(Some(Record {
                 path,
@@ -44,15 +44,4 @@ fn record_of(alloc: Global, log: &ThreadLog) -> Result<Option<Record>, AllocErro
         }
         None => Ok(None),
     }
-}
-
-// Equal events, in order.
-fn copies(alloc: Global, events: &[Event]) -> Result<Vec<Event>, AllocError>
-    ensures { IfOk result (λ v. v.items ≡ events.now) }
-{
-    let mut all = Vec::new(alloc);
-    for event in events {
-        all.push(event.copy(alloc)?)?;
-    }
-    Ok(all)
 }

@@ -1,7 +1,7 @@
 use Rattle.std.proofs.Common.{◌+◌, ◌++◌, map, drop, ap, subst, ◌∙◌}
 use Rattle.source_grammar.specs.RawRead.{read_expr}
 use Rattle.source_grammar.specs.RawTree.{RawTerm}
-use Rattle.source_reader.specs.Faults.{term_faults, terms_faults}
+use Rattle.source_reader.specs.Faults.{terms_faults}
 use Rattle.source_reader.specs.Resolved.{term_meant}
 use Rattle.source_reader.specs.Fits.{TermsFit}
 use Rattle.source_reader.specs.Known.{env_in}
@@ -11,14 +11,9 @@ use Rattle.source_reader.proofs.list.expressions.Goals as goal
 
 pub returns-in_err-e : goal.returns-in_err-e
 returns-in_err-e c =
-    let xs = c.args.list.now in
-    let i = c.loop-raw.raw-index in
-    let d = c.raw-item.result in
-    let env = env_in c.args.names.now in
-    let scope = c.args.scope.now in
-    let e = c.in_err-e.field-0.0 in
-    handed_on (terms_faults env (map read_expr xs) scope) _ _ e _ c.from_residual-in_err-e.ensures.1
-    (gives_first (terms_faults env (map read_expr xs) scope) (term_faults env (read_expr d) scope) (terms_faults env (map read_expr (drop (i + 1) xs)) scope) e (c.loop-raw.invariant.faults ∙ ap (λ v. terms_faults env v scope) (next_term xs i d c.loop-raw-test.true c.raw-item.is)) c.in_err-e.ensures)
+    let next = next_term c.args.list.now c.loop-raw.raw-index c.raw-item.result c.loop-raw-test.true c.raw-item.is in
+    handed_on _ _ _ c.in_err-e.field-0.0 _ c.from_residual-in_err-e.ensures.1
+    (gives_first _ _ _ c.in_err-e.field-0.0 (c.loop-raw.invariant.faults ∙ ap (λ v. terms_faults (env_in c.args.names.now) v c.args.scope.now) next) c.in_err-e.ensures)
 
 pub loop-raw-preserved : goal.loop-raw-preserved
 loop-raw-preserved c =

@@ -1,7 +1,7 @@
-use Rattle.std.proofs.Common.{◌+◌, ◌++◌, drop, get_or, ap, ◌∙◌}
+use Rattle.std.proofs.Common.{◌+◌, ◌++◌, drop, ap, ◌∙◌}
 use Rattle.source_grammar.specs.declared.raw.Name.{Name}
 use Rattle.source_reader.specs.Names.{prio_of}
-use Rattle.source_reader.specs.Faults.{prio_faults, prios_faults}
+use Rattle.source_reader.specs.Faults.{prios_faults}
 use Rattle.source_reader.specs.Known.{env_in}
 use Rattle.source_reader.proofs.Lists.{gives_first, handed_on}
 use Rattle.source_reader.proofs.Walk.{next_of, made_next}
@@ -9,13 +9,9 @@ use Rattle.source_reader.proofs.list.priorities.Goals as goal
 
 pub returns-in_err-found : goal.returns-in_err-found
 returns-in_err-found c =
-    let ns = c.args.list.now in
-    let i = c.loop-name.name-index in
-    let d : Name = record { at = 0; id = 0 } in
-    let env = env_in c.args.names.now in
-    let e = c.in_err-found.field-0.0 in
-    handed_on (prios_faults env ns) _ _ e _ c.from_residual-in_err-found.ensures.1
-    (gives_first (prios_faults env ns) (prio_faults env (get_or ns i d)) (prios_faults env (drop (i + 1) ns)) e (c.loop-name.invariant.faults ∙ ap (prios_faults env) (next_of ns i d c.loop-name-test.true)) c.in_err-found.ensures)
+    let next = next_of c.args.list.now c.loop-name.name-index (record { at = 0; id = 0 }) c.loop-name-test.true in
+    handed_on _ _ _ c.in_err-found.field-0.0 _ c.from_residual-in_err-found.ensures.1
+    (gives_first _ _ _ c.in_err-found.field-0.0 (c.loop-name.invariant.faults ∙ ap (prios_faults (env_in c.args.names.now)) next) c.in_err-found.ensures)
 
 pub loop-name-preserved : goal.loop-name-preserved
 loop-name-preserved c =

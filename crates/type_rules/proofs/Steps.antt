@@ -75,6 +75,10 @@ passed s r G H rest body OutOfMemory l h = tt
 pub drop-all : (bs : List Bind) (i : ℕ) → length bs ≤ i → drop i bs ≡ []
 drop-all bs i h = drop_of_length-le bs h
 
+-- past the last of the actions the ending is what is left
+pub leads_over : (s : Setting) (r : Prio) (G H : Scope) (xs : List Bind) (tail body : Body) (i : ℕ) → length xs ≤ i → Leads s r G (body_of (drop i xs) tail) H body → Leads s r G tail H body
+leads_over s r G H xs tail body i over l = subst (λ bs. Leads s r G (body_of bs tail) H body) (drop-all xs i over) l
+
 pub second_stops : (s : Setting) (G H : Scope) (r : Prio) (at : ℕ) (e : Term) (a b : Code) (A B : Type') (stop : TypeStop) → H ≡ G → HasType G e A → CodeHas a s G r B → CodeStops s H r b stop → BodyStops s G r (branch at e a b) stop
 second_stops s G H r at e a b A B (Fault f) same h k i = inr (inr (inl (A, B, h, k, subst (λ K. CodeFaults b s K r f.kind f.at) same i)))
 second_stops s G H r at e a b A B OutOfMemory same h k i = tt

@@ -56,7 +56,8 @@ abbrev mutual
   CodeFaults (block at b) s G r k p = BodyFaults b s G r k p
 
   pub BodyFaults : Body → Setting → Scope → Prio → TypeKind → ℕ → Type 0
-  BodyFaults (bind at a rest) s G r k p = PartsFault a s G r k p ⊎ ((ActFault s G r a k × (p ≡ at)) ⊎ ((A : Type') × ActHas a s G r A × BodyFaults rest s (G ++ A ∷ []) r k p))
+  BodyFaults (bind at a rest) s G r k p =
+      PartsFault a s G r k p ⊎ ((ActFault s G r a k × (p ≡ at)) ⊎ ((A : Type') × ActHas a s G r A × BodyFaults rest s (G ++ A ∷ []) r k p))
   BodyFaults (give at e) s G r k p = TermFaults e G k p
   BodyFaults (branch at e a b) s G r k p =
       TermFaults e G k p

@@ -102,7 +102,9 @@ abbrev mutual
   body_sites (bind at a rest) r bs = act_sites a r bs ++ (site bs (an_act at r a) ++ body_sites rest r (bs ++ bound r a ∷ []))
   body_sites (give at e) r bs = term_sites bs e ++ site bs (an_end r (give at e))
   body_sites (branch at e a b) r bs = term_sites bs e ++ (code_sites a r bs ++ (code_sites b r bs ++ site bs (an_end r (branch at e a b))))
-  body_sites (split at e a b) r bs = term_sites bs e ++ (site bs (a_test at e) ++ (code_sites a r (bs ++ left_of e ∷ []) ++ (code_sites b r (bs ++ right_of e ∷ []) ++ site bs (an_end r (split at e a b)))))
+  body_sites (split at e a b) r bs =
+      term_sites bs e ++ (site bs (a_test at e)
+      ++ (code_sites a r (bs ++ left_of e ∷ []) ++ (code_sites b r (bs ++ right_of e ∷ []) ++ site bs (an_end r (split at e a b)))))
 
   -- the parts of an action; the action itself comes after them
   pub act_sites : Act → Prio → Binders → List Site
@@ -151,11 +153,19 @@ CallFails s G r sig ps es WrongPriority = at_prios ps sig.own ≢ r
 CallFails s G r sig ps es ConstraintKind = (c : Constraint) × Contains sig.given c × (Holds s (at_prios ps c.0) (at_prios ps c.1) → ⊥)
 CallFails s G r sig ps es k = ⊥
 
+-- no type of a thread
+abbrev pub IsNoThread : Type' → Type 0
+IsNoThread A = (q : Prio) (B : Type') → A ≢ thread q B
+
+-- the kinds of fault of a wait on what has this type
+abbrev pub SyncFails : Setting → Prio → Type' → TypeKind → Type 0
+SyncFails s r A k = (IsNoThread A × (k ≡ NotThread)) ⊎ ((q : Prio) × (B : Type') × (A ≡ thread q B) × (Holds s r q → ⊥) × (k ≡ Inversion))
+
 -- the kinds of fault of an action whose parts have types
 abbrev pub ActFails : Setting → Scope → Prio → Act → TypeKind → Type 0
 ActFails s G r (ret e) k = ⊥
 ActFails s G r (spawn q c) k = (A : Type') × CodeHas c s G q A × (16 < type_nodes (thread q A)) × (k ≡ Wide)
-ActFails s G r (sync h) k = (A : Type') × (slice_get G h ≡ Some A) × ((((q : Prio) (B : Type') → A ≢ thread q B) × (k ≡ NotThread)) ⊎ ((q : Prio) × (B : Type') × (A ≡ thread q B) × (Holds s r q → ⊥) × (k ≡ Inversion)))
+ActFails s G r (sync h) k = (A : Type') × (slice_get G h ≡ Some A) × SyncFails s r A k
 ActFails s G r (call f ps es) k = (sig : Signature) × (slice_get s.procs f ≡ Some sig) × CallFails s G r sig ps es k
 ActFails s G r (run c) k = ⊥
 ActFails s G r input k = ⊥
@@ -166,7 +176,8 @@ abbrev pub EndFails : Setting → Scope → Prio → Body → TypeKind → Type 
 EndFails s G r (bind at a rest) k = ⊥
 EndFails s G r (give at e) k = ⊥
 EndFails s G r (branch at e a b) k = (A B C : Type') × HasType G e A × CodeHas a s G r B × CodeHas b s G r C × ((A ≢ bool) ⊎ (B ≢ C)) × (k ≡ Mismatch)
-EndFails s G r (split at e a b) k = (A B C D : Type') × HasType G e (sum A B) × CodeHas a s (G ++ A ∷ []) r C × CodeHas b s (G ++ B ∷ []) r D × (C ≢ D) × (k ≡ Mismatch)
+EndFails s G r (split at e a b) k =
+    (A B C D : Type') × HasType G e (sum A B) × CodeHas a s (G ++ A ∷ []) r C × CodeHas b s (G ++ B ∷ []) r D × (C ≢ D) × (k ≡ Mismatch)
 
 -- the kinds of fault of a node whose parts have types
 abbrev pub NodeFails : Setting → Scope → Node → TypeKind → Type 0

@@ -8,7 +8,7 @@ use Rattle.type_rules.specs.Shared.{read_shared}
 use Rattle.type_rules.specs.Typing.{CodeInScope, BodyInScope, HasType, CodeHas}
 use Rattle.type_rules.specs.Answers.{setting, scope_of, CodeStops, BodyAnswer, BodyStops, Leads}
 use Rattle.type_rules.proofs.Handed.{handed}
-use Rattle.type_rules.proofs.Steps.{starts, goes_on, stops, passed, next_item, opened, answers, scope_push, kept_push, long_push, drop-all, second_stops}
+use Rattle.type_rules.proofs.Steps.{starts, goes_on, stops, passed, next_item, opened, answers, scope_push, kept_push, long_push, leads_over, second_stops}
 use Rattle.type_rules.proofs.block.+check.Goals as goal
 
 pub type_of_block-loop-bind-init : goal.type_of_block-loop-bind-init
@@ -61,25 +61,16 @@ type_of_block-loop-bind-preserved t c =
 
 pub type_of_block-returns-in_err-t-2-clause-answer : goal.type_of_block-returns-in_err-t-2-clause-answer
 type_of_block-returns-in_err-t-2-clause-answer t c =
-    let b = c.args.block.now in
     let xs = c.deref-bind-items.result.now in
-    let tail = read_tail (out-Block b).tail.form (out-Block b).tail.at in
-    let s = setting c.args.known.now c.args.procs.now in
-    let over = ap (λ zs. body_of zs tail) (drop-all xs c.loop-bind.bind-index c.loop-bind-test.false) in
-    let leads = subst (λ x. Leads s c.args.r (scope_of c.loop-bind.scope.items) x (scope_of c.args.scope.now.items) (body_of xs tail)) over c.loop-bind.invariant.leads in
-    answers _ _ _ b xs _ c.deref-bind-items.ensures.value
-    (handed _ _ c.in_err-t-2.field-0.0 _ c.from_residual-in_err-t-2.ensures.1
-    (passed s c.args.r (scope_of c.loop-bind.scope.items) (scope_of c.args.scope.now.items) tail (body_of xs tail) c.in_err-t-2.field-0.0 leads c.in_err-t-2.ensures.answer))
+    let leads = leads_over _ _ _ _ xs _ _ c.loop-bind.bind-index c.loop-bind-test.false c.loop-bind.invariant.leads in
+    answers _ _ _ c.args.block.now xs _ c.deref-bind-items.ensures.value
+    (handed _ _ c.in_err-t-2.field-0.0 _ c.from_residual-in_err-t-2.ensures.1 (passed _ _ _ _ _ _ c.in_err-t-2.field-0.0 leads c.in_err-t-2.ensures.answer))
 
 pub type_of_block-returns-clause-answer : goal.type_of_block-returns-clause-answer
 type_of_block-returns-clause-answer t c =
-    let b = c.args.block.now in
     let xs = c.deref-bind-items.result.now in
-    let tail = read_tail (out-Block b).tail.form (out-Block b).tail.at in
-    let s = setting c.args.known.now c.args.procs.now in
-    let over = ap (λ zs. body_of zs tail) (drop-all xs c.loop-bind.bind-index c.loop-bind-test.false) in
-    let leads = subst (λ x. Leads s c.args.r (scope_of c.loop-bind.scope.items) x (scope_of c.args.scope.now.items) (body_of xs tail)) over c.loop-bind.invariant.leads in
-    answers s (scope_of c.args.scope.now.items) c.args.r b xs (Ok c.in_ok-t-2.t) c.deref-bind-items.ensures.value (leads.typed (read_shared c.in_ok-t-2.t) c.in_ok-t-2.ensures.answer)
+    let leads = leads_over _ _ _ _ xs _ _ c.loop-bind.bind-index c.loop-bind-test.false c.loop-bind.invariant.leads in
+    answers (setting c.args.known.now c.args.procs.now) (scope_of c.args.scope.now.items) c.args.r c.args.block.now xs (Ok c.in_ok-t-2.t) c.deref-bind-items.ensures.value (leads.typed (read_shared c.in_ok-t-2.t) c.in_ok-t-2.ensures.answer)
 
 pub type_of_tail-returns-in_err-right-in-If-clause-answer : goal.type_of_tail-returns-in_err-right-in-If-clause-answer
 type_of_tail-returns-in_err-right-in-If-clause-answer t c =

@@ -1,7 +1,9 @@
--- All words have an answer to each input, where they are of no command that asks for a cost graph.
-use Rattle.std.proofs.Common.{◌≡◌, ℕ, ◌≤◌, List, length, Result, Ok, Err, inl, inr, refl, arith}
-use Rattle.std.specs.Prelude.{◌⊎◌}
-use Rattle.priml_syntax.specs.Tree.{Tree}
+-- All words have an answer to each input: each layer makes something or has a fault.
+use Rattle.std.proofs.Common.{◌≡◌, ℕ, ◌*◌, ◌≤◌, ◌<◌, List, length, Result, Ok, Err, inl, inr, refl, arith}
+use Rattle.std.specs.Prelude.{◌⊎◌, ◌^◌}
+use Rattle.std.specs.List.{All}
+use Rattle.std.proofs.lemmas.Bool.{cases_lt}
+use Rattle.priml_syntax.specs.Tree.{Tree, pairs_of}
 use Rattle.priml_syntax.specs.Values.{Entry}
 use Rattle.priml_io.proofs.CutDecided.{all_cut}
 use Rattle.priml_io.proofs.Decided.{le_or_not}
@@ -20,14 +22,32 @@ use Rattle.type_rules.specs.declared.TypeKind.{TypeKind}
 use Rattle.type_rules.proofs.TypesDecided.{each_decided}
 use Rattle.core_steps.specs.Meaning.{Meaning, meaning, Finished, Over}
 use Rattle.core_steps.specs.Steps.{Job}
+use Rattle.priority_order.specs.Order.{Names}
+use Rattle.cost_graph.specs.Graph.{CostGraph, thread_total, vertex_total, IsVertexBelow}
+use Rattle.cost_graph.specs.Text.{graph_lines}
+use Rattle.prompt_checker.specs.Schedule.{IsPrompt}
+use Rattle.prompt_checker.specs.Text.{schedule_text}
+use Rattle.prompt_checker.specs.Verdict.{IsVerdict}
+use Rattle.prompt_checker.specs.declared.schedule.Verdict.{Verdict}
+use Rattle.prompt_checker.specs.declared.schedule.Verdict.TheVariants as verdict
+use Rattle.prompt_checker.proofs.LinesDecided as schedules
+use Rattle.prompt_checker.proofs.ReadLines.{steps-below}
+use Rattle.prompt_checker.proofs.VerdictDecided.{all_judged}
+use Rattle.prompt_planner.proofs.CanonicalPrompt.{canonical_prompt}
+use Rattle.prompt_planner.proofs.SomePlan.{canonical_some}
+use Rattle.response_report.specs.Response.{limit}
+use Rattle.response_report.proofs.SomeRows.{rows_some}
 use Rattle.priml.specs.Chain.{Answer}
-use Rattle.priml.specs.Commands.{WithProgram, WithRecords, Of}
+use Rattle.priml.specs.Commands.{WithProgram, WithRecords, WithGraph, Reports, Planned, Judged, Of}
 use Rattle.priml.specs.Headline.{Are}
-use Rattle.priml.specs.Laws.{NeedsNoGraph, WordsAreAnswered}
+use Rattle.priml.specs.Laws.{WordsAreAnswered}
 use Rattle.priml.specs.Layers as the
-use Rattle.priml.specs.Runs.{Inputs, job_of}
-use Rattle.priml.specs.Texts.{ok_text, run_text}
+use Rattle.priml.specs.Prefixes.{IsChecked, IsRecorded, IsGraphed, IsSound}
+use Rattle.priml.specs.Runs.{job_of}
+use Rattle.priml.specs.Texts.{ok_text, run_text, report_text}
 use Rattle.priml.proofs.Layered.{Decides, IsSome, layer_decides}
+use Rattle.priml.proofs.Replied.{built_reads, in_range}
+use Rattle.priml.proofs.Sound.{has_graph, sound}
 
 command_decides : (ws : List (List ℕ)) → Decides (the.command ws)
 command_decides ws = go (words.all_read ws) where
@@ -46,7 +66,6 @@ built_decides (Plan c l) = inl (tt, tt)
 built_decides (Judge c l) = inl (tt, tt)
 built_decides (Sample n w q c l) = inr (tt, λ b. b)
 
--- a command that needs no graph reads the input
 short_decides : (c : Command) (input : List ℕ) → the.ReadsInput c → Decides (the.short c input)
 short_decides c input needs = elim (le_or_not (length input) the.input_limit) [ inl h ↦ inl (tt, λ _. h) | inr n ↦ inr (tt, (needs, (omega (arith, n)))) ]
 
@@ -68,45 +87,98 @@ run_decides job most = go (meaning job most) refl where
   go Over e = inr (tt, e)
   go (Finished rs) e = inl (rs, e)
 
-program_decides : (input : List ℕ) (rest : Sections → Tree → Answer) → ((s : Sections) (p : Tree) → IsSome (rest s p)) → IsSome (WithProgram input rest)
+small_decides : (g : CostGraph) → Decides (the.small g)
+small_decides g = elim (cases_lt limit (thread_total g * vertex_total g)) [ inl large ↦ inr (tt, large) | inr small ↦ inl (tt, small) ]
+
+prompt_decides : (pairs : List (ℕ × ℕ)) (g : CostGraph) (cores : ℕ) (steps : List (List ℕ)) → All (λ step. All (λ v. v < vertex_total g) step) steps → Decides (the.prompt pairs g cores steps)
+prompt_decides pairs g cores steps within = go (all_judged g pairs cores steps within) where
+  go : (v : Verdict) × IsVerdict g (IsVertexBelow g pairs) cores steps v → Decides (the.prompt pairs g cores steps)
+  go (verdict.Prompt, h) = inl (tt, h)
+  go (verdict.Flaw f, h) = inr (f, h)
+
+-- the layers to a typable program
+program_decides : (input : List ℕ) (rest : Sections → Tree → Answer) → ((s : Sections) (p : Tree) → IsChecked input s p → IsSome (rest s p)) → IsSome (WithProgram input rest)
 program_decides input rest next =
-    layer_decides _ _ (all_cut input) λ s _.
+    layer_decides _ _ (all_cut input) λ s cut.
     layer_decides _ _ (source_decides s.program) λ p is.
-    layer_decides _ _ (typed_decides s.program p is) λ _ _.
-    next s p
+    layer_decides _ _ (typed_decides s.program p is) λ _ typed.
+    next s p (record { cut = cut; stands = is; typable = typed })
 
-records_decide : (most : ℕ) (input : List ℕ) (rest : Sections → Tree → List Entry → Answer) → ((s : Sections) (p : Tree) (rs : List Entry) → IsSome (rest s p rs)) → IsSome (WithRecords most input rest)
+-- the layers to the records of a run
+records_decide : (most : ℕ) (input : List ℕ) (rest : Sections → Tree → List Entry → Answer) → ((s : Sections) (p : Tree) (rs : List Entry) → IsRecorded most input s p rs → IsSome (rest s p rs))
+    → IsSome (WithRecords most input rest)
 records_decide most input rest next =
-    program_decides input _ λ s p.
-    layer_decides _ _ (inputs.all_read (lines s.inputs)) λ i _.
-    layer_decides _ _ (run_decides (job_of p i) most) λ rs _.
-    next s p rs
+    program_decides input _ λ s p is.
+    layer_decides _ _ (inputs.all_read (lines s.inputs)) λ i read.
+    layer_decides _ _ (run_decides (job_of p i) most) λ rs ran.
+    next s p rs (record { checked = is; reads = i; read = read; ran = ran })
 
-of_decides : (c : Command) (input : List ℕ) → NeedsNoGraph c → IsSome (Of c input)
-of_decides Check input plain = program_decides input _ λ s p. (0, ok_text, (refl, refl))
-of_decides (Serial l) input plain = records_decide l input _ λ s p rs. (0, run_text p rs, (refl, refl))
-of_decides (Report c l) input plain = absurd plain
-of_decides (Run w q c l) input plain = absurd plain
-of_decides (Trace w q l) input plain = absurd plain
-of_decides (Graph l) input plain = absurd plain
-of_decides (Plan c l) input plain = absurd plain
-of_decides (Judge c l) input plain = absurd plain
-of_decides (Sample n w q c l) input plain = absurd plain
+-- the layers to a cost graph
+graph_decides : (most : ℕ) → most < 2 ^ 32 → (input : List ℕ) (rest : Sections → Tree → List Entry → CostGraph → Answer)
+    → ((s : Sections) (p : Tree) (rs : List Entry) (g : CostGraph) → IsGraphed most input s p rs g → IsSome (rest s p rs g)) → IsSome (WithGraph most input rest)
+graph_decides most few input rest next =
+    records_decide most input _ λ s p rs is.
+    layer_decides _ _ (inl (has_graph most input s p rs is few)) λ g made.
+    next s p rs g (record { recorded = is; made = made })
 
-reads_input : (c : Command) → NeedsNoGraph c → the.ReadsInput c
-reads_input Check plain = tt
-reads_input (Serial l) plain = tt
-reads_input (Report c l) plain = tt
-reads_input (Run w q c l) plain = tt
-reads_input (Trace w q l) plain = tt
-reads_input (Graph l) plain = tt
-reads_input (Plan c l) plain = tt
-reads_input (Judge c l) plain = tt
-reads_input (Sample n w q c l) plain = plain
+-- the layers behind a cost graph
+module _ (most : ℕ) (input : List ℕ) (s : Sections) (p : Tree) (rs : List Entry) (g : CostGraph) (is : IsGraphed most input s p rs g) (cores : ℕ) where
+  abbrev own : Names
+  own = record { names = p.names; pairs = pairs_of p }
+
+  fit : IsSound g own
+  fit = sound most input s p rs is.recorded g is.made own (record { names = refl; pairs = refl })
+
+  typable : Typable p
+  typable = is.recorded.checked.typable
+
+  plan_decides : 1 ≤ cores → Decides (the.plan (pairs_of p) (length p.names) g cores)
+  plan_decides one =
+      let steps = canonical_some g (pairs_of p) (length p.names) cores is.made.kept typable.lawful fit.priorities one in
+      inl (steps.0, (steps.1, canonical_prompt g (pairs_of p) (length p.names) cores steps.0 is.made.kept fit.acyclic steps.1))
+
+  rows_decide : (steps : List (List ℕ)) → IsPrompt g (IsVertexBelow g (pairs_of p)) cores steps → Decides (the.rows (pairs_of p) g cores steps)
+  rows_decide steps prompt = inl (rows_some g (pairs_of p) cores steps is.made.kept typable.lawful fit.well_formed prompt)
+
+  reports_decide : (steps : List (List ℕ)) → IsPrompt g (IsVertexBelow g (pairs_of p)) cores steps → IsSome (Reports p rs g cores steps)
+  reports_decide steps prompt =
+      layer_decides _ _ (small_decides g) λ _ _.
+      layer_decides _ _ (rows_decide steps prompt) λ found _.
+      (0, report_text p rs g cores steps found, (refl, refl))
+
+plan_answered : (cores most : ℕ) (input : List ℕ) → 1 ≤ cores → most < 2 ^ 32 → IsSome (Of (Plan cores most) input)
+plan_answered cores most input one few =
+    graph_decides most few input _ λ s p rs g is.
+    layer_decides _ _ (plan_decides most input s p rs g is cores one) λ steps _.
+    (0, schedule_text g steps, (refl, refl))
+
+planned_answered : (cores most : ℕ) (input : List ℕ) → 1 ≤ cores → most < 2 ^ 32 → IsSome (Planned cores most input)
+planned_answered cores most input one few =
+    graph_decides most few input _ λ s p rs g is.
+    layer_decides _ _ (plan_decides most input s p rs g is cores one) λ steps made.
+    reports_decide most input s p rs g is cores steps made.1
+
+judged_answered : (cores most : ℕ) (input : List ℕ) → most < 2 ^ 32 → IsSome (Judged cores most input)
+judged_answered cores most input few =
+    graph_decides most few input _ λ s p rs g is.
+    layer_decides _ _ (schedules.all_read g (lines s.schedule)) λ steps read.
+    layer_decides _ _ (prompt_decides (pairs_of p) g cores steps (steps-below g is.made.kept (lines s.schedule) steps read)) λ _ prompt.
+    reports_decide most input s p rs g is cores steps prompt
+
+of_decides : (words : List (List ℕ)) (c : Command) (input : List ℕ) → Are words c → IsSome (Of c input)
+of_decides words Check input right = program_decides input _ λ s p _. (0, ok_text, (refl, refl))
+of_decides words (Serial l) input right = records_decide l input _ λ s p rs _. (0, run_text p rs, (refl, refl))
+of_decides words (Graph l) input right = graph_decides l (in_range words (Graph l) right.0) input _ λ s p rs g _. (0, graph_lines g p.names, (refl, refl))
+of_decides words (Plan c l) input right = let n = in_range words (Plan c l) right.0 in plan_answered c l input n.0 n.1
+of_decides words (Report c l) input right = let n = in_range words (Report c l) right.0 in planned_answered c l input n.0 n.2
+of_decides words (Judge c l) input right = let n = in_range words (Judge c l) right.0 in judged_answered c l input n.2
+of_decides words (Run w q c l) input right = absurd right.1
+of_decides words (Trace w q l) input right = absurd right.1
+of_decides words (Sample n w q c l) input right = absurd right.1
 
 pub words_answered : WordsAreAnswered
-words_answered ws input plain =
+words_answered ws input =
     layer_decides _ _ (command_decides ws) λ c reads.
     layer_decides _ _ (built_decides c) λ _ b.
-    layer_decides _ _ (short_decides c input (reads_input c (plain c (reads, b)))) λ _ _.
-    of_decides c input (plain c (reads, b))
+    layer_decides _ _ (short_decides c input (built_reads c b)) λ _ _.
+    of_decides ws c input (reads, b)

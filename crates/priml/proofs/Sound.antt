@@ -1,27 +1,67 @@
--- The cost graph of a run is sound.
-use Rattle.std.proofs.Common.{◌≡◌, ℕ, ◌<◌, List, length, map, sym, subst}
-use Rattle.std.specs.List.{All}
-use Rattle.std.specs.Prelude.{◌↔◌}
-use Rattle.std.proofs.lemmas.List.Elements.{All-map}
-use Rattle.priml_syntax.specs.Read.{read_record}
-use Rattle.priml_syntax.specs.Tree.{pairs_of}
-use Rattle.priml_syntax.specs.declared.record.Record.{Record}
+-- The records of a run have a cost graph, and it is sound.
+use Rattle.std.proofs.Common.{ℕ, ◌<◌, List, [], ◌∷◌, length, map, sym, subst}
+use Rattle.std.specs.Prelude.{◌^◌}
+use Rattle.std.specs.List.{All, AllByRecursion}
+use Rattle.std.proofs.lemmas.List.Elements.{All-from_recursion}
+use Rattle.priml_io.specs.Sections.{Sections}
+use Rattle.priml_syntax.specs.Tree.{Tree, pairs_of}
+use Rattle.priml_syntax.specs.Values.{Entry}
+use Rattle.priml_syntax.specs.Records.{Each, InPathOrder}
 use Rattle.priority_order.specs.Order.{Names}
+use Rattle.source_reader.specs.Stands.{Stands}
+use Rattle.source_reader.proofs.Standing.{scoped_as}
 use Rattle.type_rules.specs.Stops.{IsOrderOf}
-use Rattle.core_steps.specs.Laws.{HasGraph}
+use Rattle.type_rules.specs.Typable.{Typable}
+use Rattle.core_steps.specs.Laws as laws
 use Rattle.core_steps.specs.Steps.{Job}
+use Rattle.core_steps.proofs.Agree.{finished_is_complete}
+use Rattle.core_steps.proofs.CheckedLaws.{checked_laws}
+use Rattle.serial_meaning.proofs.Stack.{finished_below}
 use Rattle.cost_graph.specs.declared.graph.Thread.{Thread}
-use Rattle.cost_graph.specs.Graph.{CostGraph, IsAcyclic, IsWellFormed}
-use Rattle.cost_graph.specs.Records.{part_of, parts_in, thread_of, IsGraphOf, IsAcyclicGraph, IsWellFormedGraph}
-use Rattle.priml.specs.Prefixes.{IsSound}
+use Rattle.cost_graph.specs.Graph.{CostGraph, IsWellFormed}
+use Rattle.cost_graph.specs.Records.{parts_of, thread_of, IsGraphOf}
+use Rattle.cost_graph.proofs.Carried.{same_acyclic, same_well_formed}
+use Rattle.cost_graph.proofs.Parts.{AreApart, apart_of}
+use Rattle.cost_graph.proofs.SomeGraph as graphs
+use Rattle.priml.specs.Prefixes.{IsRecorded, IsSound}
+use Rattle.priml.specs.Runs.{Inputs, job_of}
 
-declared : (n : ℕ) (rs : List Record) → All (λ r. r.prio < n) rs → All (λ (t : Thread). t.priority < n) (map thread_of (parts_in rs))
-declared n rs h = All-map (λ t. t.priority < n) thread_of _ (All-map (λ x. (thread_of x).priority < n) part_of _ (All-map (λ e. (thread_of (part_of e)).priority < n) read_record rs h))
+-- a program that stands for a text and is typable is checked, with whatever its threads read
+pub checked_job : (source : List ℕ) (tree : Tree) (inputs : Inputs) → Stands source tree → Typable tree → laws.IsChecked (job_of tree inputs)
+checked_job source tree inputs is typed = record { typable = typed; scoped = scoped_as is.names is.raw tree is.clean is.meant }
 
-pub sound : (job : Job) (rs : List Record) (g : CostGraph) (o : Names) → IsOrderOf job.program o → HasGraph job (map read_record rs) → (IsAcyclicGraph (parts_in rs) ↔ IsAcyclic g)
-    → ((pairs : List (ℕ × ℕ)) → IsWellFormedGraph pairs (parts_in rs) ↔ IsWellFormed g pairs) → IsGraphOf (parts_in rs) g → All (λ r. r.prio < length job.program.names) rs → IsSound g o
-sound job rs g o is has acyclic formed made small = record {
-  acyclic = acyclic.0 has.acyclic;
-  well_formed = subst (IsWellFormed g) (sym is.pairs) ((formed (pairs_of job.program)).0 has.well_formed);
-  priorities = subst (λ names. All (λ (t : Thread). t.priority < length names) g.threads) (sym is.names) (subst (All (λ (t : Thread). t.priority < length job.program.names)) (sym made.threads) (declared (length job.program.names) rs small));
-}
+declared : (n : ℕ) (rs : List Entry) → Each (λ r. r.prio < n) rs → AllByRecursion (λ (t : Thread). t.priority < n) (map thread_of (parts_of rs))
+declared n [] h = tt
+declared n (r ∷ rs) h = (h.0, declared n rs h.1)
+
+module _ (most : ℕ) (input : List ℕ) (s : Sections) (p : Tree) (rs : List Entry) (is : IsRecorded most input s p rs) where
+  abbrev job : Job
+  job = job_of p is.reads
+
+  checked : laws.IsChecked job
+  checked = checked_job s.program p is.reads is.checked.stands is.checked.typable
+
+  in_order : InPathOrder rs
+  in_order = (finished_is_complete job rs most is.ran).1
+
+  pub has_graph : most < 2 ^ 32 → (g : CostGraph) × IsGraphOf (parts_of rs) g
+  has_graph few = graphs.some_graph rs in_order (finished_below job checked most rs is.ran few)
+
+  module _ (g : CostGraph) (made : IsGraphOf (parts_of rs) g) where
+    apart : AreApart (parts_of rs)
+    apart = apart_of rs in_order
+
+    has : laws.HasGraph job rs
+    has = (checked_laws job checked).graphs.meant rs most is.ran
+
+    small : All (λ (t : Thread). t.priority < length p.names) g.threads
+    small =
+        let each = declared (length p.names) rs ((checked_laws job checked).prios.meant rs most is.ran) in
+        subst (All (λ (t : Thread). t.priority < length p.names)) (sym made.threads) (All-from_recursion (λ (t : Thread). t.priority < length p.names) (map thread_of (parts_of rs)) each)
+
+    pub sound : (o : Names) → IsOrderOf p o → IsSound g o
+    sound o of = record {
+      acyclic = (same_acyclic (parts_of rs) apart g made).0 has.acyclic;
+      well_formed = subst (IsWellFormed g) (sym of.pairs) ((same_well_formed (parts_of rs) apart g made (pairs_of p)).0 has.well_formed);
+      priorities = subst (λ names. All (λ (t : Thread). t.priority < length names) g.threads) (sym of.names) small;
+    }

@@ -1,26 +1,30 @@
 //! What holds of all words and inputs, and of a run whose source and sink never fail.
-ghost use Rattle.std.specs.Prelude.{◌≡◌, ◌⊎◌, Some, IfSome};
+ghost use Rattle.std.specs.Prelude.{◌≡◌, ◌⊎◌, ℕ, List, Some, IfSome};
+ghost use Rattle.priml.specs.Commands.{Answers};
 ghost use Rattle.priml.specs.Headline.{IsDone};
-ghost use Rattle.priml.specs.Laws.{WordsAreAnswered};
+ghost use Rattle.priml.specs.Laws.{WordsAreAnswered, AnswersAreOne};
 ghost use Rattle.priml.specs.Lines.{words_of};
 
 use crate::still::priml_still;
 use priml_io::{SteadySink, SteadySource};
 use std::alloc::Global;
 
-/// Words that are wrong, of a command that is not built, or of `check` or `serial` have an answer to each input.
+/// All words, right or wrong, have an answer to each input, and just one.
 pub fn words_are_answered()
-    ensures { WordsAreAnswered }
+    ensures some { WordsAreAnswered }
+    ensures one { AnswersAreOne }
 {}
 
-/// `priml_still` over a source and a sink that never fail: where no layer refuses the input, the status is 0, or 10 for want of memory.
+/// `priml_still` over a source and a sink that never fail: the status is that of the answer, or 10 for want of memory. Where no layer
+/// refuses the input it is 0, or 10.
 pub fn priml_steady(
     alloc: Global,
     words: &[String],
     source: &mut SteadySource,
     sink: &mut SteadySink,
 ) -> Option<u8>
-    ensures { IsDone (words_of words.now) (Some source.old) → IfSome result (λ s. (s ≡ 0) ⊎ (s ≡ 10)) }
+    ensures done { IsDone (words_of words.now) (Some source.old) → IfSome result (λ s. (s ≡ 0) ⊎ (s ≡ 10)) }
+    ensures answer { (status : ℕ) (text : List ℕ) → Answers (words_of words.now) source.old status text → IfSome result (λ s. (s ≡ status) ⊎ (s ≡ 10)) }
 {
     priml_still(alloc, words, source, sink)
 }

@@ -12,4 +12,4 @@ returns-in_err-graph-clause-refused c =
     handed_on (NoGraph c.args.most c.args.input.now) _ _ c.from_residual-in_err-graph.ensures.1 (behind_records _ _ _ _ _ _ _ c.in_ok-sections.ensures.ok (stopped _ _ _ c.in_err-graph.ensures.graph))
 
 pub returns-clause-sound : goal.returns-clause-sound
-returns-clause-sound c = λ o is. sound _ _ _ o is c.in_ok-sections.ensures.graph c.in_ok-graph.ensures.acyclic c.in_ok-graph.ensures.well_formed c.in_ok-graph.ensures.graph c.in_ok-sections.ensures.declared
+returns-clause-sound c = λ o is. sound _ _ _ _ _ c.in_ok-sections.ensures.ok _ c.in_ok-graph.ensures.graph o is

@@ -141,7 +141,7 @@ module _ (pairs : List Pair) (given : List Constraint) where
     -- following an edge keeps all
     pub follow_keeps : (steps : List Step) (reached : Table) (edge : Step) (new_steps : List Step) (new_reached : Table) → IsSearch pairs given start count steps reached → ((before : List Step) → StepFits pairs given before edge) → IsValid count edge.left → IsValid count edge.right → (new : Bool) → Followed start count edge steps reached new_steps new_reached new → IsSearch pairs given start count new_steps new_reached
     follow_keeps steps reached edge new_steps new_reached s fits vl vr false f = subst (λ xs. IsSearch pairs given start count xs new_reached) (sym f.0) (subst (λ t. IsSearch pairs given start count steps t) (sym f.1) s)
-    follow_keeps steps reached edge new_steps new_reached s fits vl vr true f = by_from f.0 f.1 f.2 f.3 f.4 f.5
+    follow_keeps steps reached edge new_steps new_reached s fits vl vr true f = by_from f.0 f.1 f.2 f.3 f.4.0 f.4.1
       where
         same_as : (more : List Step) (n : ℕ) → length more ≡ n + 1 → IsSearch pairs given start count more (set reached (number count edge.right) (Some n)) → new_steps ≡ more → new_reached ≡ set reached (number count edge.right) (Some (length new_steps - 1)) → IsSearch pairs given start count new_steps new_reached
         same_as more n long t es er =
@@ -160,7 +160,7 @@ module _ (pairs : List Pair) (given : List Constraint) where
             same_as ((steps ++ edge ∷ []) ++ joint ∷ []) (length steps + 1) (length_more (steps ++ edge ∷ []) joint ∙ ap (λ n. n + 1) (length_more steps edge)) (from_step steps reached edge k s fits vl vr free_ l) (es ∙ sym (append_assoc steps (edge ∷ []) (joint ∷ []))) er
 
     fell : (reached new_reached : Table) (edge : Step) (steps new_steps : List Step) → Followed start count edge steps reached new_steps new_reached true → free new_reached + 1 ≡ free reached
-    fell reached new_reached edge steps new_steps f = subst (λ t. free t + 1 ≡ free reached) (sym f.5) (fewer reached (number count edge.right) (length new_steps - 1) f.3)
+    fell reached new_reached edge steps new_steps f = subst (λ t. free t + 1 ≡ free reached) (sym f.4.1) (fewer reached (number count edge.right) (length new_steps - 1) f.3)
 
     closed_more : (n : ℕ) (edge : Step) (reached new_reached : Table) → slice_get (constraints pairs given) n ≡ Some (edge.left, edge.right) → new_reached ≡ reached → IsClosedTo start count (constraints pairs given) reached n → (IsReached start count reached edge.left → IsReached start count reached edge.right) → IsClosedTo start count (constraints pairs given) new_reached (n + 1)
     closed_more n edge reached new_reached here same closed step = subst (λ t. IsClosedTo start count (constraints pairs given) t (n + 1)) (sym same) (λ j c l e. by_place j c l e (cases_lt j n))

@@ -37,7 +37,8 @@ prio_code = code_by (ℕ ⊎ ℕ) (coded⊎ coded_ℕ coded_ℕ) out_prio in_pri
 -- count, pairs and constraints as numbers
 abbrev pub facts_code : Coded Facts
 facts_code =
-    code_by (ℕ × (List Pair × List Constraint)) (coded× coded_ℕ (coded× (coded_list (coded× coded_ℕ coded_ℕ)) (coded_list (coded× prio_code prio_code)))) (λ k. (k.count, (k.pairs, k.given))) (λ t. record { count = t.0; pairs = t.1.0; given = t.1.1 }) (λ _. refl)
+    code_by (ℕ × (List Pair × List Constraint)) (coded× coded_ℕ (coded× (coded_list (coded× coded_ℕ coded_ℕ)) (coded_list (coded× prio_code prio_code))))
+    (λ k. (k.count, (k.pairs, k.given))) (λ t. record { count = t.0; pairs = t.1.0; given = t.1.1 }) (λ _. refl)
 
 -- the closure is that of the declared pairs and the numbered constraints
 pub record IsKnown (count : ℕ) (pairs : List Pair) (given : List Constraint) (closure : Edges) : Type 0 where

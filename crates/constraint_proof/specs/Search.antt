@@ -57,20 +57,37 @@ abbrev pub over : Prio → ℕ → Step → Option ℕ → List Step
 over start n edge None = edge ∷ []
 over start n edge (Some k) = edge ∷ record { rule = Transitive k n; left = start; right = edge.right } ∷ []
 
+-- the edge leads to nothing new
+abbrev pub LeadsBack : Prio → ℕ → Table → Prio → Prio → Type 0
+LeadsBack start count reached p q = IsReached start count reached p → IsReached start count reached q
+
+-- the steps over an edge are added, and the last of them is the one that was found for its right side
+abbrev pub Adds : Prio → ℕ → Step → List Step → Table → List Step → Table → Option ℕ → Type 0
+Adds start count edge steps reached new_steps new_reached from =
+    (new_steps ≡ steps ++ over start (length steps) edge from)
+    × (new_reached ≡ slice_set reached (number count edge.right) (Some (length new_steps - 1)))
+
 -- an edge that leads from what is reached to what is not adds its steps, and any other nothing
 abbrev pub Followed : Prio → ℕ → Step → List Step → Table → List Step → Table → Bool → Type 0
-Followed start count edge steps reached new_steps new_reached false = (new_steps ≡ steps) × (new_reached ≡ reached) × (IsReached start count reached edge.left → IsReached start count reached edge.right)
-Followed start count edge steps reached new_steps new_reached true = (from : Option ℕ) × IsReached start count reached edge.left × (slice_get reached (number count edge.left) ≡ Some from) × (slice_get reached (number count edge.right) ≡ Some None) × (new_steps ≡ steps ++ over start (length steps) edge from) × (new_reached ≡ slice_set reached (number count edge.right) (Some (length new_steps - 1)))
+Followed start count edge steps reached new_steps new_reached false =
+    (new_steps ≡ steps) × (new_reached ≡ reached) × LeadsBack start count reached edge.left edge.right
+Followed start count edge steps reached new_steps new_reached true =
+    (from : Option ℕ) × IsReached start count reached edge.left × (slice_get reached (number count edge.left) ≡ Some from)
+    × (slice_get reached (number count edge.right) ≡ Some None) × Adds start count edge steps reached new_steps new_reached from
 
 -- the first n constraints lead to nothing new
 abbrev pub IsClosedTo : Prio → ℕ → List Constraint → Table → ℕ → Type 0
-IsClosedTo start count all reached n = (j : ℕ) (c : Constraint) → j < n → slice_get all j ≡ Some c → IsReached start count reached c.0 → IsReached start count reached c.1
+IsClosedTo start count all reached n = (j : ℕ) (c : Constraint) → j < n → slice_get all j ≡ Some c → LeadsBack start count reached c.0 c.1
 
 -- after the first n constraints: something was found, or they lead to nothing new
 abbrev pub Went : Prio → ℕ → List Constraint → ℕ → Table → Table → Bool → Type 0
 Went start count all n reached new_reached false = (free new_reached ≤ free reached) × IsClosedTo start count all new_reached n
 Went start count all n reached new_reached true = free new_reached < free reached
 
+-- a derivation has the steps up to the one that was found for the priority of this number
+abbrev pub KeepsTo : List Step → Table → ℕ → Derivation → Type 0
+KeepsTo steps reached n d = (k : ℕ) × (slice_get reached n ≡ Some (Some k)) × (d.steps.items ≡ take (k + 1) steps)
+
 -- what is kept of a search for the priority of this number: the steps up to the one that was found for it
 abbrev pub Kept : List Step → Table → ℕ → Option Derivation → Type 0
-Kept steps reached n o = MatchOption o (slice_get reached n ≡ Some None) (λ d. (k : ℕ) × (slice_get reached n ≡ Some (Some k)) × (d.steps.items ≡ take (k + 1) steps))
+Kept steps reached n o = MatchOption o (slice_get reached n ≡ Some None) (KeepsTo steps reached n)

@@ -18,7 +18,8 @@ pub record Edges : Type 0 where
 -- size and pairs as numbers
 abbrev pub edges_code : Coded Edges
 edges_code =
-    code_by (ℕ × List Pair) (coded× coded_ℕ (coded_list (coded× coded_ℕ coded_ℕ))) (λ e. (e.size, e.pairs)) (λ p. record { size = p.0; pairs = p.1 }) (λ _. refl)
+    code_by (ℕ × List Pair) (coded× coded_ℕ (coded_list (coded× coded_ℕ coded_ℕ)))
+    (λ e. (e.size, e.pairs)) (λ p. record { size = p.0; pairs = p.1 }) (λ _. refl)
 
 -- bit y of row x is 1 exactly where x is at most y
 pub record IsClosed (pairs : List Pair) (rows : List ℕ) : Type 0 where

@@ -79,4 +79,5 @@ pub record Names : Type 0 where
 -- names and pairs as lists of numbers
 abbrev pub names_code : Coded Names
 names_code =
-    code_by (List (List ℕ) × List Pair) (coded× (coded_list (coded_list coded_ℕ)) (coded_list (coded× coded_ℕ coded_ℕ))) (λ e. (e.names, e.pairs)) (λ p. record { names = p.0; pairs = p.1 }) (λ _. refl)
+    code_by (List (List ℕ) × List Pair) (coded× (coded_list (coded_list coded_ℕ)) (coded_list (coded× coded_ℕ coded_ℕ)))
+    (λ e. (e.names, e.pairs)) (λ p. record { names = p.0; pairs = p.1 }) (λ _. refl)

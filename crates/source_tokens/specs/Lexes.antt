@@ -20,13 +20,17 @@ pub record IsName (lexeme : List ℕ) : Type 0 where
 abbrev pub IsDistinct : List (List ℕ) → Type 0
 IsDistinct names = (j k : ℕ) (name : List ℕ) → slice_get names j ≡ Some name → slice_get names k ≡ Some name → j ≡ k
 
+-- a name is none of the known ones
+abbrev pub IsNew : List (List ℕ) → List ℕ → Type 0
+IsNew known name = (id : ℕ) → slice_get known id ≢ Some name
+
 -- a lexeme writes a token of this kind, where `known` are the distinct names so far and `names` those with this one
 pub data Spells (known : List (List ℕ)) (lexeme : List ℕ) (kind : Kind) (names : List (List ℕ)) : Type 0 where
   word : (w : Word) → lexeme ≡ word_spelling w → kind ≡ k.Word w → names ≡ known → Spells known lexeme kind names
   sign : (s : Sign) → lexeme ≡ sign_spelling s → kind ≡ k.Sign s → names ≡ known → Spells known lexeme kind names
   number : IsTrue (is_number lexeme) → value_of lexeme < 2 ^ 63 → kind ≡ k.Number (value_of lexeme) → names ≡ known → Spells known lexeme kind names
   old_name : (id : ℕ) → IsName lexeme → slice_get known id ≡ Some lexeme → kind ≡ k.Name id → names ≡ known → Spells known lexeme kind names
-  new_name : IsName lexeme → ((id : ℕ) → slice_get known id ≢ Some lexeme) → kind ≡ k.Name (length known) → names ≡ known ++ (lexeme ∷ []) → Spells known lexeme kind names
+  new_name : IsName lexeme → IsNew known lexeme → kind ≡ k.Name (length known) → names ≡ known ++ (lexeme ∷ []) → Spells known lexeme kind names
 
 -- `(`, `[` and `{` open a bracket
 abbrev pub opens : Kind → Bool

@@ -3,6 +3,7 @@ use Rattle.std.specs.Prelude.{◌≡◌, ◌≢◌, ℕ, ◌^◌, ◌≤◌, Lis
 use Rattle.std.specs.HashSet.{HashSet}
 use Rattle.std.specs.declared.vec.Vec.{Vec}
 use Rattle.priml_io.specs.Words.{value_of}
+use Rattle.source_tokens.specs.Lexes.{IsNew}
 use Rattle.source_tokens.specs.declared.form.Form.{Form}
 use Rattle.source_tokens.specs.declared.form.Form.TheVariants as f
 use Rattle.source_tokens.specs.declared.lexer.Lexed.{Lexed}
@@ -18,7 +19,7 @@ spellings lexed = name_bytes lexed.names
 -- a name has this number among the known ones, or becomes the last of them
 abbrev pub IsNumbered : List (List ℕ) → List ℕ → ℕ → List (List ℕ) → Type 0
 IsNumbered known name id names =
-    ((slice_get known id ≡ Some name) × (names ≡ known)) ⊎ (((k : ℕ) → slice_get known k ≢ Some name) × (id ≡ length known) × (names ≡ known ++ (name ∷ [])))
+    ((slice_get known id ≡ Some name) × (names ≡ known)) ⊎ (IsNew known name × (id ≡ length known) × (names ≡ known ++ (name ∷ [])))
 
 -- a number whose value is two to the 63 or more
 abbrev pub IsTooLarge : Form → List ℕ → Type 0

@@ -8,7 +8,8 @@ use Rattle.trace_book.specs.Log.{Log}
 
 -- the line of a cut of the thread of this path
 abbrev pub cut_line : List ℕ → Cut → List ℕ
-cut_line p c = codes "cut " ++ path_text p ++ codes " from " ++ decimal c.from ++ codes " steps " ++ decimal c.steps ++ codes " worker " ++ decimal c.worker ++ 10 ∷ []
+cut_line p c =
+    codes "cut " ++ path_text p ++ codes " from " ++ decimal c.from ++ codes " steps " ++ decimal c.steps ++ codes " worker " ++ decimal c.worker ++ 10 ∷ []
 
 -- the lines of a thread's cuts
 abbrev pub log_lines : Log → List ℕ

@@ -1,6 +1,7 @@
 -- What an end has stays ds it changes.
-use Rattle.std.proofs.Common.{◌≡◌, ℕ, zero, suc, ◌<◌, List, [], ◌∷◌, length, map, Option, None, Some, Result, Ok, Err, sym, refl, ap, ◌∙◌, subst}
+use Rattle.std.proofs.Common.{◌≡◌, ℕ, zero, suc, ◌<◌, List, [], ◌∷◌, length, map, Option, None, Some, Result, Ok, Err, Vec, Global, set, length-set, sym, refl, ap, ◌∙◌, subst}
 use lib.ListN.{length-map}
+use lib.Seq.{map-set}
 use Rattle.std.specs.Prelude.{slice_get, MatchOption, OnOk, IfErr, IfSome}
 use Rattle.std.specs.List.{AllByRecursion, AllZip}
 use Rattle.std.proofs.lemmas.Option.{same_Some, none-some}
@@ -14,7 +15,7 @@ use Rattle.priority_deques.specs.Parts.{end_books, lane_books}
 use Rattle.priority_deques.specs.Tasks.{Fits}
 use Rattle.priority_deques.specs.declared.parts.LaneDeques.{LaneDeques}
 use Rattle.priority_deques.proofs.Changes.{at_mapped}
-use Rattle.priority_deques.proofs.Lists.{EachAt}
+use Rattle.priority_deques.proofs.Lists.{EachAt, each_set}
 
 module _ {A : Type 0} (R S : A → A → Type 0) where
   changed_length : (n : ℕ) (xs ys : List A) → ChangedAt R S n xs ys → length ys ≡ length xs
@@ -138,6 +139,15 @@ module _ (job : WithInputs) where
     put_end Q t k (Err e) a b = own_keeps Refused refused_still k old new h b.1
 
   module _ {O B : Type 0} (own : O → DequeBook) (theirs : B → DequeBook) (lanes : List (LaneDeques O B)) (h : IsEndOf job (end_books own theirs lanes)) where
+    -- the end's own deque of a lane is one of that lane
+    pub own_lane : (k : ℕ) (d : LaneDeques O B) → slice_get lanes k ≡ Some d → ((own d.own).job ≡ job) × ((own d.own).lane ≡ k)
+    own_lane k d at = (h.1 k (lane_books own theirs d) (at_mapped (lane_books own theirs) lanes k d at)).0
+
+    -- the end gets other deques of a lane
+    pub join_keeps : (k : ℕ) (d : LaneDeques O B) (others : Vec B Global) → slice_get lanes k ≡ Some d → AreOfLane job k (map theirs others.items) → IsEndOf job (end_books own theirs (set lanes k (record d { others = others })))
+    join_keeps k d others at all = let f = lane_books own theirs in let e = record d { others = others } in subst (IsEndOf job) (sym (map-set f lanes k e))
+        ((length-set (map f lanes) k (f e) ∙ h.0.0, h.0.1), each_set (AreOfLane job) (map f lanes) k (f e) (own_lane k d at, all) (λ j x _ q. h.1 j x q))
+
     -- a task that fits the lane fits the end's own deque of it
     pub fits_own : (t : TaskFields) (k : ℕ) → Fits (job_of job) k t → (d : LaneDeques O B) → slice_get lanes k ≡ Some d → Fits (job_of (own d.own).job) (own d.own).lane t
     fits_own t k f d at = fits_here t k (own d.own) (h.1 k (lane_books own theirs d) (at_mapped (lane_books own theirs) lanes k d at)).0 f

@@ -5,3 +5,5 @@ pub mod Lists
 pub mod Prios
 pub mod Tables
 pub mod Keeps
+pub mod Opened
+pub mod Joins

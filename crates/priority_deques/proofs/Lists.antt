@@ -20,3 +20,18 @@ module _ {A : Type 0} where
   each_set P (z ∷ xs) zero y p h (suc k) x e = h (suc k) x (λ q. absurd (omega (arith, q))) e
   each_set P (z ∷ xs) (suc i) y p h zero x e = h 0 x (λ q. absurd (omega (arith, q))) e
   each_set P (z ∷ xs) (suc i) y p h (suc k) x e = each_set (λ j. P (suc j)) xs i y p (λ j u n. h (suc j) u (λ q. n (omega (arith, q)))) k x e
+
+  pub some_at : (xs : List A) (k : ℕ) → k < length xs → (x : A) × (slice_get xs k ≡ Some x)
+  some_at [] k l = absurd (omega (arith, l))
+  some_at (x ∷ xs) zero l = (x, refl)
+  some_at (x ∷ xs) (suc k) l = some_at xs k (omega (arith, l))
+
+  pub set_same : (xs : List A) (i : ℕ) (x y : A) → slice_get xs i ≡ Some x → y ≡ x → set xs i y ≡ xs
+  set_same [] i x y at e = absurd (none-some x at)
+  set_same (z ∷ xs) zero x y at e = ap (λ (w : A). w ∷ xs) (e ∙ sym (same_Some z x at))
+  set_same (z ∷ xs) (suc i) x y at e = ap (λ (l : List A). z ∷ l) (set_same xs i x y at e)
+
+  pub each_mapped : {B : Type 0} (f : A → B) (P : ℕ → B → Type 0) (xs : List A) → EachAt (λ k x. P k (f x)) xs → (k : ℕ) (y : B) → slice_get (map f xs) k ≡ Some y → P k y
+  each_mapped f P [] h k y e = absurd (none-some y e)
+  each_mapped f P (x ∷ xs) h zero y e = subst (P 0) (same_Some (f x) y e) (h 0 x refl)
+  each_mapped f P (x ∷ xs) h (suc k) y e = each_mapped f (λ j. P (suc j)) xs (λ j. h (suc j)) k y e

@@ -59,7 +59,7 @@ numbers-one text a b p q = pairs-one IsNumberText number-one (words_of text) a b
 given-one : (line : List ℕ) (x y : List ℕ × List ℤ) → Gives line x.0 x.1 → Gives line y.0 y.1 → x ≡ y
 given-one line x y g h =
     let cuts = cut-one line g.before g.after h.before h.after g.cut h.cut in
-    let paths : x.0 ≡ y.0 = path-one h.before x.0 y.0 (rw cuts.0 at g.path_text) h.path_text in
+    let paths : x.0 ≡ y.0 = path-one 0 h.before x.0 y.0 (rw cuts.0 at g.path_text) h.path_text in
     let numbers : x.1 ≡ y.1 = numbers-one h.after x.1 y.1 (rw cuts.1 at g.numbers_text) h.numbers_text in
     ap (λ p. (p, x.1)) paths ∙ ap (λ n. (y.0, n)) numbers
 
@@ -79,7 +79,7 @@ pub bad-uncut : (line : List ℕ) → ¬ IsInputLine line None → All (λ b. b 
 bad-uncut line n p None h = n h
 bad-uncut line n p (Some x) h = no-colon h.before h.after (rw h.cut.is at p)
 
-pub bad-path : (line path numbers : List ℕ) → ¬ IsInputLine line None → IsCut line path numbers → ((p : List ℕ) → ¬ IsPathText path p) → IsBadLine line
+pub bad-path : (line path numbers : List ℕ) → ¬ IsInputLine line None → IsCut line path numbers → ((p : List ℕ) → ¬ IsPathText 0 path p) → IsBadLine line
 bad-path line path numbers n c b None h = n h
 bad-path line path numbers n c b (Some x) h = b x.0 (rw (cut-one line h.before h.after path numbers h.cut c).0 at h.path_text)
 

@@ -48,13 +48,13 @@ part_or_none text =
       | inr no' ↦ inr (λ n p. no' (p.digits, (p.plain, subst (λ v. v < 2 ^ 32) p.value p.small)))
     ]
 
-pub path_or_none : (text : List ℕ) → ((p : List ℕ) × IsPathText text p) ⊎ ((p : List ℕ) → ¬ IsPathText text p)
-path_or_none text =
+pub path_or_none : (last : ℕ) (text : List ℕ) → ((p : List ℕ) × IsPathText last text p) ⊎ ((p : List ℕ) → ¬ IsPathText last text p)
+path_or_none last text =
     elim (pairs_or_none IsPartText part_or_none (between_dots text)) [
       | inr none ↦ inr (λ p h. none p h.parts)
-      | inl ps ↦ elim (both_or_not (equal_or_not (slice_index ps.0 0) 0) (le_or_not (length ps.0) 32)) [
+      | inl ps ↦ elim (both_or_not (le_or_not (slice_index ps.0 0) last) (le_or_not (length ps.0) 32)) [
         | inl h ↦ inl (ps.0, record { parts = ps.1; root = h.0; few = h.1 })
-        | inr wrong ↦ inr (path-refused text ps.0 ps.1 wrong)
+        | inr wrong ↦ inr (path-refused last text ps.0 ps.1 wrong)
       ]
     ]
 
@@ -117,7 +117,7 @@ comment_or_not (b ∷ bs) = elim (equal_or_not b 35) [ inl e ↦ inl (ap Some e)
 -- what a line says, or that it says nothing right
 form_or_bad : (line : List ℕ) → ((form : Option (List ℕ × List ℤ)) × IsInputLine line form) ⊎ IsBadLine line
 form_or_bad line = go (either_or_not (true_or_not (list_all is_blank line)) (comment_or_not line)) (cut_or_none line) where
-  given : ¬ IsInputLine line None → (path numbers : List ℕ) → IsCut line path numbers → ((p : List ℕ) × IsPathText path p) ⊎ ((p : List ℕ) → ¬ IsPathText path p) → ((ns : List ℤ) × AreNumbers numbers ns) ⊎ ((ns : List ℤ) → ¬ AreNumbers numbers ns) → ((form : Option (List ℕ × List ℤ)) × IsInputLine line form) ⊎ IsBadLine line
+  given : ¬ IsInputLine line None → (path numbers : List ℕ) → IsCut line path numbers → ((p : List ℕ) × IsPathText 0 path p) ⊎ ((p : List ℕ) → ¬ IsPathText 0 path p) → ((ns : List ℤ) × AreNumbers numbers ns) ⊎ ((ns : List ℤ) → ¬ AreNumbers numbers ns) → ((form : Option (List ℕ × List ℤ)) × IsInputLine line form) ⊎ IsBadLine line
   given n path numbers c (inr none) ns = inr (bad-path line path numbers n c none)
   given n path numbers c (inl p) (inr none) = inr (bad-numbers line path numbers n c none)
   given n path numbers c (inl p) (inl ns) = inl (Some (p.0, ns.0), record { before = path; after = numbers; cut = c; path_text = p.1; numbers_text = ns.1 })
@@ -125,7 +125,7 @@ form_or_bad line = go (either_or_not (true_or_not (list_all is_blank line)) (com
   go : IsInputLine line None ⊎ ¬ IsInputLine line None → ((path : List ℕ) × (numbers : List ℕ) × IsCut line path numbers) ⊎ All (λ b. b ≢ 58) line → ((form : Option (List ℕ × List ℤ)) × IsInputLine line form) ⊎ IsBadLine line
   go (inl h) c = inl (None, h)
   go (inr n) (inr none) = inr (bad-uncut line n none)
-  go (inr n) (inl c) = given n c.0 c.1 c.2 (path_or_none c.0) (numbers_or_none c.1)
+  go (inr n) (inl c) = given n c.0 c.1 c.2 (path_or_none 0 c.0) (numbers_or_none c.1)
 
 -- whether a path has a list
 path_known : (p : List ℕ) (lists : List (List ℕ × List ℤ)) → HasPath p lists ⊎ IsNoneOf p lists

@@ -33,11 +33,11 @@ pub path-some : (text path : List ℕ) → Pairwise IsPartText (between_dots tex
 path-some text path p = omega (arith, pairs-length IsPartText (between_dots text) path p, length-slice_split (λ x. x == 46) text)
 
 -- a text is one path at most
-pub path-one : (text p q : List ℕ) → IsPathText text p → IsPathText text q → p ≡ q
-path-one text p q a b = pairs-one IsPartText part-one (between_dots text) p q a.parts b.parts
+pub path-one : (last : ℕ) (text p q : List ℕ) → IsPathText last text p → IsPathText last text q → p ≡ q
+path-one last text p q a b = pairs-one IsPartText part-one (between_dots text) p q a.parts b.parts
 
 -- parts that are no path's
-pub path-refused : (text parts : List ℕ) → Pairwise IsPartText (between_dots text) parts → ¬ ((slice_index parts 0 ≡ 0) × (length parts ≤ 32)) → (q : List ℕ) → ¬ IsPathText text q
-path-refused text parts p n q h =
+pub path-refused : (last : ℕ) (text parts : List ℕ) → Pairwise IsPartText (between_dots text) parts → ¬ ((slice_index parts 0 ≤ last) × (length parts ≤ 32)) → (q : List ℕ) → ¬ IsPathText last text q
+path-refused last text parts p n q h =
     let same : q ≡ parts = pairs-one IsPartText part-one (between_dots text) q parts h.parts p in
     n (rw (← same) h.root, rw (← same) h.few)

@@ -39,12 +39,12 @@ pub record IsCut (line path numbers : List ℕ) : Type 0 where
   pub is : line ≡ path ++ 58 ∷ numbers
   pub first : All (λ b. b ≢ 58) path
 
--- a line that gives these numbers to this path
+-- a line that gives these numbers to this path, whose root is 0
 pub record Gives (line path : List ℕ) (numbers : List ℤ) : Type 0 where
   pub before : List ℕ
   pub after : List ℕ
   pub cut : IsCut line before after
-  pub path_text : IsPathText before path
+  pub path_text : IsPathText 0 before path
   pub numbers_text : AreNumbers after numbers
 
 -- a line of the inputs: it is blank or a comment and gives nothing, or it gives numbers to a path

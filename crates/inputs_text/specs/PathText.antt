@@ -21,8 +21,8 @@ pub record IsPartText (text : List ℕ) (n : ℕ) : Type 0 where
 abbrev pub between_dots : List ℕ → List (List ℕ)
 between_dots text = slice_split (λ b. b == 46) text
 
--- a path: at most 32 parts with a dot between, and the first is 0
-pub record IsPathText (text path : List ℕ) : Type 0 where
+-- a path: at most 32 parts with a dot between, and the first, the number of its root, is at most `last`
+pub record IsPathText (last : ℕ) (text path : List ℕ) : Type 0 where
   pub parts : Pairwise IsPartText (between_dots text) path
-  pub root : slice_index path 0 ≡ 0
+  pub root : slice_index path 0 ≤ last
   pub few : length path ≤ 32

@@ -30,7 +30,7 @@ pub(crate) fn read_line(alloc: Global, line: &[u8]) -> Result<Line, AllocError>
     let Some((path, numbers)) = cut(line) else {
         return Ok(Line::Bad);
     };
-    let Some(path) = read_path(alloc, path)? else {
+    let Some(path) = read_path(alloc, path, 0)? else {
         return Ok(Line::Bad);
     };
     let Some(numbers) = read_numbers(alloc, numbers)? else {

@@ -6,26 +6,26 @@ use priml_io::{capped_value, is_digits};
 use priml_syntax::Path;
 use std::alloc::{AllocError, Global};
 
-/// Reads a path: at most 32 numbers below 2 to the 32, the first 0, in decimal digits without leading zeros and with a
-/// dot between. None where the text is no path.
-pub fn read_path(alloc: Global, text: &[u8]) -> Result<Option<Path>, AllocError>
-    ensures { IfOk result (λ r. MatchOption r ((p : List ℕ) → ¬ IsPathText text.now p) (IsPathText text.now)) }
+/// Reads a path: at most 32 numbers below 2 to the 32, the first of them, its root, at most `last`, in decimal digits
+/// without leading zeros and with a dot between. None where the text is no such path.
+pub fn read_path(alloc: Global, text: &[u8], last: u32) -> Result<Option<Path>, AllocError>
+    ensures { IfOk result (λ r. MatchOption r ((p : List ℕ) → ¬ IsPathText last text.now p) (IsPathText last text.now)) }
 {
     let Some(parts) = read_parts(alloc, text)? else {
         return Ok(None);
     };
-    if !is_path(&parts) {
+    if !is_path(&parts, last) {
         return Ok(None);
     }
     Ok(Some(Path::of_parts(parts)))
 }
 
 /// Whether these parts, at least one, are a path's.
-fn is_path(parts: &[u32]) -> bool
+fn is_path(parts: &[u32], last: u32) -> bool
     requires { 0 < length parts.now }
-    ensures { MatchBool result ((slice_index parts.now 0 ≡ 0) × (length parts.now ≤ 32)) (¬ ((slice_index parts.now 0 ≡ 0) × (length parts.now ≤ 32))) }
+    ensures { MatchBool result ((slice_index parts.now 0 ≤ last) × (length parts.now ≤ 32)) (¬ ((slice_index parts.now 0 ≤ last) × (length parts.now ≤ 32))) }
 {
-    if parts[0] != 0 {
+    if parts[0] > last {
         return false;
     }
     parts.len() <= 32

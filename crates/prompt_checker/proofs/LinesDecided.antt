@@ -10,7 +10,7 @@ use Rattle.inputs_text.proofs.LinesDecided.{part_or_none, path_or_none, cut_or_n
 use Rattle.inputs_text.proofs.Pairs.{pairs-more}
 use Rattle.cost_graph.specs.Graph.{CostGraph, thread_at, thread_total, first_vertex, IsVertexAt}
 use Rattle.cost_graph.proofs.Members.{member_head, member_tail}
-use Rattle.prompt_checker.specs.ScheduleText.{Name, IsVertexText, IsBadWord, IsStepLine, IsBadLine, IsUnknownLine, AreStepLines, IsFirstFault}
+use Rattle.prompt_checker.specs.ScheduleText.{Name, last_root, IsVertexText, IsBadWord, IsStepLine, IsBadLine, IsUnknownLine, AreStepLines, IsFirstFault}
 use Rattle.prompt_checker.specs.Looks.{IsLook}
 use Rattle.prompt_checker.specs.Watch.{IsLeastOf}
 use Rattle.prompt_checker.specs.Laws.{LinesAreRead}
@@ -39,33 +39,33 @@ module _ (g : CostGraph) (path : List ℕ) (n : ℕ) where
     go (Some t, least) = inl (first_vertex g t + n, record { thread = t; within = least.0.0; path_is = least.0.1; below = least.0.2; is = refl })
 
 -- the form of a word
-named_or_bad : (word : List ℕ) → ((name : Name) × IsVertexText word name) ⊎ IsBadWord word
-named_or_bad word = go (cut_or_none word) where
-  made : (front back : List ℕ) → IsCut word front back → ((p : List ℕ) × IsPathText front p) ⊎ ((p : List ℕ) → ¬ IsPathText front p) → ((n : ℕ) × IsPartText back n) ⊎ ((n : ℕ) → ¬ IsPartText back n) → ((name : Name) × IsVertexText word name) ⊎ IsBadWord word
-  made front back c (inr none) n = inr (no-path word front back c none)
-  made front back c (inl p) (inr none) = inr (no-number word front back c none)
-  made front back c (inl p) (inl n) = inl ((p.0, n.0), vertex-made word front back p.0 n.0 c p.1 n.1)
+named_or_bad : (g : CostGraph) (word : List ℕ) → ((name : Name) × IsVertexText (last_root g) word name) ⊎ IsBadWord g word
+named_or_bad g word = go (cut_or_none word) where
+  made : (front back : List ℕ) → IsCut word front back → ((p : List ℕ) × IsPathText (last_root g) front p) ⊎ ((p : List ℕ) → ¬ IsPathText (last_root g) front p) → ((n : ℕ) × IsPartText back n) ⊎ ((n : ℕ) → ¬ IsPartText back n) → ((name : Name) × IsVertexText (last_root g) word name) ⊎ IsBadWord g word
+  made front back c (inr none) n = inr (no-path g word front back c none)
+  made front back c (inl p) (inr none) = inr (no-number g word front back c none)
+  made front back c (inl p) (inl n) = inl ((p.0, n.0), vertex-made (last_root g) word front back p.0 n.0 c p.1 n.1)
 
-  go : ((path : List ℕ) × (numbers : List ℕ) × IsCut word path numbers) ⊎ All (λ b. b ≢ 58) word → ((name : Name) × IsVertexText word name) ⊎ IsBadWord word
-  go (inr none) = inr (no-cut word none)
-  go (inl c) = made c.0 c.1 c.2 (path_or_none c.0) (part_or_none c.1)
+  go : ((path : List ℕ) × (numbers : List ℕ) × IsCut word path numbers) ⊎ All (λ b. b ≢ 58) word → ((name : Name) × IsVertexText (last_root g) word name) ⊎ IsBadWord g word
+  go (inr none) = inr (no-cut g word none)
+  go (inl c) = made c.0 c.1 c.2 (path_or_none (last_root g) c.0) (part_or_none c.1)
 
 module _ (g : CostGraph) where
   -- what looking a word up gives
-  looked_up : (word : List ℕ) → ((r : Option ℕ) × IsLook g word r) ⊎ IsBadWord word
-  looked_up word = go (named_or_bad word) where
-    at : (name : Name) → IsVertexText word name → ((v : ℕ) × IsVertexAt g name.0 name.1 v) ⊎ ((v : ℕ) → IsVertexAt g name.0 name.1 v → ⊥) → ((r : Option ℕ) × IsLook g word r) ⊎ IsBadWord word
+  looked_up : (word : List ℕ) → ((r : Option ℕ) × IsLook g word r) ⊎ IsBadWord g word
+  looked_up word = go (named_or_bad g word) where
+    at : (name : Name) → IsVertexText (last_root g) word name → ((v : ℕ) × IsVertexAt g name.0 name.1 v) ⊎ ((v : ℕ) → IsVertexAt g name.0 name.1 v → ⊥) → ((r : Option ℕ) × IsLook g word r) ⊎ IsBadWord g word
     at name t (inl v) = inl (Some v.0, (name, t, v.1))
     at name t (inr none) = inl (None, (name, t, none))
 
-    go : ((name : Name) × IsVertexText word name) ⊎ IsBadWord word → ((r : Option ℕ) × IsLook g word r) ⊎ IsBadWord word
+    go : ((name : Name) × IsVertexText (last_root g) word name) ⊎ IsBadWord g word → ((r : Option ℕ) × IsLook g word r) ⊎ IsBadWord g word
     go (inr bad) = inr bad
     go (inl named) = at named.0 named.1 (vertex_or_none g named.0.0 named.0.1)
 
-  all_looked_up : (words : List (List ℕ)) → ((looks : List (Option ℕ)) × Pairwise (IsLook g) words looks) ⊎ ((word : List ℕ) × Contains words word × IsBadWord word)
+  all_looked_up : (words : List (List ℕ)) → ((looks : List (Option ℕ)) × Pairwise (IsLook g) words looks) ⊎ ((word : List ℕ) × Contains words word × IsBadWord g word)
   all_looked_up [] = inl ([], tt)
   all_looked_up (w ∷ words) = go (looked_up w) (all_looked_up words) where
-    go : ((r : Option ℕ) × IsLook g w r) ⊎ IsBadWord w → ((looks : List (Option ℕ)) × Pairwise (IsLook g) words looks) ⊎ ((word : List ℕ) × Contains words word × IsBadWord word) → ((looks : List (Option ℕ)) × Pairwise (IsLook g) (w ∷ words) looks) ⊎ ((word : List ℕ) × Contains (w ∷ words) word × IsBadWord word)
+    go : ((r : Option ℕ) × IsLook g w r) ⊎ IsBadWord g w → ((looks : List (Option ℕ)) × Pairwise (IsLook g) words looks) ⊎ ((word : List ℕ) × Contains words word × IsBadWord g word) → ((looks : List (Option ℕ)) × Pairwise (IsLook g) (w ∷ words) looks) ⊎ ((word : List ℕ) × Contains (w ∷ words) word × IsBadWord g word)
     go (inr bad) rest = inr (w, member_head w words, bad)
     go (inl r) (inr bad) = inr (bad.0, member_tail w words bad.0 bad.1, bad.2)
     go (inl r) (inl looks) = inl (r.0 ∷ looks.0, (r.1, looks.1))
@@ -83,7 +83,7 @@ module _ (g : CostGraph) where
   -- a line is a step, or is at fault
   data LineDecided (line : List ℕ) : Type 0 where
     a_step : (step : List ℕ) → IsStepLine g line step → LineDecided line
-    bad : IsBadLine line → LineDecided line
+    bad : IsBadLine g line → LineDecided line
     unknown : IsUnknownLine g line → LineDecided line
 
   line_decided : (line : List ℕ) → LineDecided line
@@ -92,7 +92,7 @@ module _ (g : CostGraph) where
     at looks p (inl step) = a_step step.0 (found-step g (words_of line) step.0 (subst (Pairwise (IsLook g) (words_of line)) step.1 p))
     at looks p (inr none) = unknown (unknown-line g line looks p none)
 
-    go : ((looks : List (Option ℕ)) × Pairwise (IsLook g) (words_of line) looks) ⊎ ((word : List ℕ) × Contains (words_of line) word × IsBadWord word) → LineDecided line
+    go : ((looks : List (Option ℕ)) × Pairwise (IsLook g) (words_of line) looks) ⊎ ((word : List ℕ) × Contains (words_of line) word × IsBadWord g word) → LineDecided line
     go (inr word) = bad word
     go (inl looks) = at looks.0 looks.1 (all_or_missing looks.0)
 

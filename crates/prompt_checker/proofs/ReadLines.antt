@@ -18,40 +18,40 @@ use Rattle.cost_graph.specs.Graph.{CostGraph, IsGraph, IsVertexAt, first_vertex,
 use Rattle.cost_graph.proofs.Members.{no_member_short, member_head}
 use Rattle.cost_graph.proofs.Threads.{one_path}
 use Rattle.cost_graph.proofs.Ends.{thread_within}
-use Rattle.prompt_checker.specs.ScheduleText.{Name, IsVertexText, IsNamed, IsVertexWord, IsUnknownWord, IsBadWord, IsStepLine, IsUnknownLine, AreStepLines, IsLineFault, IsFirstFault, HasFault, ReadsOneWay}
+use Rattle.prompt_checker.specs.ScheduleText.{Name, last_root, IsVertexText, IsNamed, IsVertexWord, IsUnknownWord, IsBadWord, IsStepLine, IsUnknownLine, AreStepLines, IsLineFault, IsFirstFault, HasFault, ReadsOneWay}
 use Rattle.prompt_checker.specs.Looks.{IsLook, StopsAt}
 use Rattle.prompt_checker.specs.declared.reader.ScheduleFault.{ScheduleFault}
 use Rattle.prompt_checker.specs.declared.reader.ScheduleFault.TheVariants.{BadText, UnknownVertex, OutOfMemory}
 
 -- what has not the form of a vertex
-pub no-cut : (text : List ℕ) → All (λ b. b ≢ 58) text → IsBadWord text
-no-cut text p name h = no-colon h.front h.back (subst (All (λ b. b ≢ 58)) h.cut.is p)
+pub no-cut : (g : CostGraph) (text : List ℕ) → All (λ b. b ≢ 58) text → IsBadWord g text
+no-cut g text p name h = no-colon h.front h.back (subst (All (λ b. b ≢ 58)) h.cut.is p)
 
-pub no-path : (text front back : List ℕ) → IsCut text front back → ((p : List ℕ) → ¬ IsPathText front p) → IsBadWord text
-no-path text front back c b name h = b name.0 (subst (λ t. IsPathText t name.0) (cut-one text h.front h.back front back h.cut c).0 h.path)
+pub no-path : (g : CostGraph) (text front back : List ℕ) → IsCut text front back → ((p : List ℕ) → ¬ IsPathText (last_root g) front p) → IsBadWord g text
+no-path g text front back c b name h = b name.0 (subst (λ t. IsPathText (last_root g) t name.0) (cut-one text h.front h.back front back h.cut c).0 h.path)
 
-pub no-number : (text front back : List ℕ) → IsCut text front back → ((n : ℕ) → ¬ IsPartText back n) → IsBadWord text
-no-number text front back c b name h = b name.1 (subst (λ t. IsPartText t name.1) (cut-one text h.front h.back front back h.cut c).1 h.number)
+pub no-number : (g : CostGraph) (text front back : List ℕ) → IsCut text front back → ((n : ℕ) → ¬ IsPartText back n) → IsBadWord g text
+no-number g text front back c b name h = b name.1 (subst (λ t. IsPartText t name.1) (cut-one text h.front h.back front back h.cut c).1 h.number)
 
-pub vertex-made : (text front back path : List ℕ) (n : ℕ) → IsCut text front back → IsPathText front path → IsPartText back n → IsVertexText text (path, n)
-vertex-made text front back path n c p k = record { front = front; back = back; cut = c; path = p; number = k }
+pub vertex-made : (last : ℕ) (text front back path : List ℕ) (n : ℕ) → IsCut text front back → IsPathText last front path → IsPartText back n → IsVertexText last text (path, n)
+vertex-made last text front back path n c p k = record { front = front; back = back; cut = c; path = p; number = k }
 
 -- a text names one vertex at most
-vertex-one : (text : List ℕ) (x y : Name) → IsVertexText text x → IsVertexText text y → x ≡ y
-vertex-one text x y g h =
+vertex-one : (last : ℕ) (text : List ℕ) (x y : Name) → IsVertexText last text x → IsVertexText last text y → x ≡ y
+vertex-one last text x y g h =
     let cuts = cut-one text g.front g.back h.front h.back g.cut h.cut in
-    let paths : x.0 ≡ y.0 = path-one h.front x.0 y.0 (subst (λ t. IsPathText t x.0) cuts.0 g.path) h.path in
+    let paths : x.0 ≡ y.0 = path-one last h.front x.0 y.0 (subst (λ t. IsPathText last t x.0) cuts.0 g.path) h.path in
     let numbers : x.1 ≡ y.1 = part-one h.back x.1 y.1 (subst (λ t. IsPartText t x.1) cuts.1 g.number) h.number in
     let P : List ℕ → Name = λ p. (p, x.1) in
     let Q : ℕ → Name = λ n. (y.0, n) in
     ap P paths ∙ ap Q numbers
 
 -- the looks
-pub look-made : (g : CostGraph) (word path : List ℕ) (n : ℕ) (r : Option ℕ) → IsVertexText word (path, n) → MatchOption r ((v : ℕ) → IsVertexAt g path n v → ⊥) (IsVertexAt g path n) → IsLook g word r
+pub look-made : (g : CostGraph) (word path : List ℕ) (n : ℕ) (r : Option ℕ) → IsVertexText (last_root g) word (path, n) → MatchOption r ((v : ℕ) → IsVertexAt g path n v → ⊥) (IsVertexAt g path n) → IsLook g word r
 look-made g word path n None t h = ((path, n), t, h)
 look-made g word path n (Some v) t h = ((path, n), t, h)
 
-look-text : (g : CostGraph) (word : List ℕ) (r : Option ℕ) → IsLook g word r → (name : Name) × IsVertexText word name
+look-text : (g : CostGraph) (word : List ℕ) (r : Option ℕ) → IsLook g word r → (name : Name) × IsVertexText (last_root g) word name
 look-text g word None h = (h.0, h.1)
 look-text g word (Some v) h = (h.0, h.1)
 
@@ -97,7 +97,7 @@ line-clash g k line step (UnknownVertex n) p h =
     let some = h.1.1 in
     let v = word-vertex g line step some.0 p some.1 in
     let unknown = some.2 in
-    let same = vertex-one some.0 v.1.0 unknown.0 v.1.1 unknown.1 in
+    let same = vertex-one (last_root g) some.0 v.1.0 unknown.0 v.1.1 unknown.1 in
     unknown.2 v.0 (subst (λ name. IsNamed g name v.0) same v.1.2)
 line-clash g k line step OutOfMemory p h = h
 
@@ -110,7 +110,7 @@ vertex-at-one g path n v w ok a b =
 
 word-one : (g : CostGraph) → IsGraph g → (word : List ℕ) (v w : ℕ) → IsVertexWord g word v → IsVertexWord g word w → v ≡ w
 word-one g ok word v w a b =
-    let same = vertex-one word a.0 b.0 a.1 b.1 in
+    let same = vertex-one (last_root g) word a.0 b.0 a.1 b.1 in
     vertex-at-one g b.0.0 b.0.1 v w ok (subst (λ name. IsNamed g name v) same a.2) b.2
 
 steps-one : (g : CostGraph) → IsGraph g → (ls : List (List ℕ)) (a b : List (List ℕ)) → AreStepLines g ls a → AreStepLines g ls b → a ≡ b

@@ -1,9 +1,9 @@
 -- The text of a schedule: a step on each line, and the first line at fault.
-use Rattle.std.specs.Prelude.{◌≡◌, ℕ, ◌+◌, List, ◌∷◌, ◌++◌, length}
+use Rattle.std.specs.Prelude.{◌≡◌, ℕ, ◌+◌, ◌-◌, List, ◌∷◌, ◌++◌, length, slice_index}
 use Rattle.std.specs.List.{Contains}
 use Rattle.inputs_text.specs.PathText.{Pairwise, IsPartText, IsPathText}
 use Rattle.inputs_text.specs.InputLines.{IsCut, words_of}
-use Rattle.cost_graph.specs.Graph.{CostGraph, IsVertexAt}
+use Rattle.cost_graph.specs.Graph.{CostGraph, thread_total, thread_at, IsVertexAt}
 use Rattle.prompt_checker.specs.declared.reader.ScheduleFault.{ScheduleFault}
 use Rattle.prompt_checker.specs.declared.reader.ScheduleFault.TheVariants.{BadText, UnknownVertex, OutOfMemory}
 
@@ -11,12 +11,16 @@ use Rattle.prompt_checker.specs.declared.reader.ScheduleFault.TheVariants.{BadTe
 abbrev pub Name : Type 0
 Name = List ℕ × ℕ
 
--- a path, a colon and a number: the form of a vertex
-pub record IsVertexText (text : List ℕ) (name : Name) : Type 0 where
+-- the root of the graph's last thread, and 0 where the graph has no thread
+abbrev pub last_root : CostGraph → ℕ
+last_root g = slice_index (thread_at g (thread_total g - 1)).path 0
+
+-- a path whose root is at most `last`, a colon and a number: the form of a vertex
+pub record IsVertexText (last : ℕ) (text : List ℕ) (name : Name) : Type 0 where
   pub front : List ℕ
   pub back : List ℕ
   pub cut : IsCut text front back
-  pub path : IsPathText front name.0
+  pub path : IsPathText last front name.0
   pub number : IsPartText back name.1
 
 -- v is the vertex of the graph with this name
@@ -25,27 +29,27 @@ IsNamed g name v = IsVertexAt g name.0 name.1 v
 
 -- a word is the name of vertex v of the graph
 abbrev pub IsVertexWord : CostGraph → List ℕ → ℕ → Type 0
-IsVertexWord g word v = (name : Name) × IsVertexText word name × IsNamed g name v
+IsVertexWord g word v = (name : Name) × IsVertexText (last_root g) word name × IsNamed g name v
 
 -- a word has the form of a vertex, and is the name of none of the graph
 abbrev pub IsUnknownWord : CostGraph → List ℕ → Type 0
-IsUnknownWord g word = (name : Name) × IsVertexText word name × ((v : ℕ) → IsNamed g name v → ⊥)
+IsUnknownWord g word = (name : Name) × IsVertexText (last_root g) word name × ((v : ℕ) → IsNamed g name v → ⊥)
 
 -- a word has not the form of a vertex
-abbrev pub IsBadWord : List ℕ → Type 0
-IsBadWord word = (name : Name) → IsVertexText word name → ⊥
+abbrev pub IsBadWord : CostGraph → List ℕ → Type 0
+IsBadWord g word = (name : Name) → IsVertexText (last_root g) word name → ⊥
 
 -- each word of a line is a vertex, in the order of the step
 abbrev pub IsStepLine : CostGraph → List ℕ → List ℕ → Type 0
 IsStepLine g line step = Pairwise (IsVertexWord g) (words_of line) step
 
 -- a word of the line has not the form of a vertex
-abbrev pub IsBadLine : List ℕ → Type 0
-IsBadLine line = (word : List ℕ) × Contains (words_of line) word × IsBadWord word
+abbrev pub IsBadLine : CostGraph → List ℕ → Type 0
+IsBadLine g line = (word : List ℕ) × Contains (words_of line) word × IsBadWord g word
 
 -- each word of the line has the form of a vertex, and one is the name of none of the graph
 abbrev pub IsUnknownLine : CostGraph → List ℕ → Type 0
-IsUnknownLine g line = ((word : List ℕ) → Contains (words_of line) word → IsBadWord word → ⊥) × ((word : List ℕ) × Contains (words_of line) word × IsUnknownWord g word)
+IsUnknownLine g line = ((word : List ℕ) → Contains (words_of line) word → IsBadWord g word → ⊥) × ((word : List ℕ) × Contains (words_of line) word × IsUnknownWord g word)
 
 -- the lines are the steps, one after the other
 abbrev pub AreStepLines : CostGraph → List (List ℕ) → List (List ℕ) → Type 0
@@ -53,7 +57,7 @@ AreStepLines g lines steps = Pairwise (IsStepLine g) lines steps
 
 -- what is wrong with line k
 abbrev pub IsLineFault : CostGraph → ℕ → List ℕ → ScheduleFault → Type 0
-IsLineFault g k line (BadText n) = (n ≡ k) × IsBadLine line
+IsLineFault g k line (BadText n) = (n ≡ k) × IsBadLine g line
 IsLineFault g k line (UnknownVertex n) = (n ≡ k) × IsUnknownLine g line
 IsLineFault g k line OutOfMemory = ⊥
 

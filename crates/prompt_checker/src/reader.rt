@@ -5,7 +5,7 @@ ghost use Rattle.priml_io.specs.Lines.{lines};
 ghost use Rattle.inputs_text.specs.PathText.{Pairwise};
 ghost use Rattle.inputs_text.specs.InputLines.{words_of};
 ghost use Rattle.prompt_checker.specs.Read.{lists, steps_of};
-ghost use Rattle.prompt_checker.specs.ScheduleText.{IsStepLine, IsBadLine, IsBadWord, IsVertexText, AreStepLines, HasFault, ReadsOneWay};
+ghost use Rattle.prompt_checker.specs.ScheduleText.{last_root as the_last_root, IsStepLine, IsBadLine, IsBadWord, IsVertexText, AreStepLines, HasFault, ReadsOneWay};
 ghost use Rattle.prompt_checker.specs.Looks.{IsLook, StopsAt};
 
 use crate::schedule::Schedule;
@@ -39,7 +39,8 @@ impl From<AllocError> for ScheduleFault {
 }
 
 /// Reads a schedule: a step on each line, its vertices with spaces, tabs or carriage returns between and perhaps
-/// around. A vertex is its thread's path, a colon and its number in the thread. The first line at fault decides.
+/// around. A vertex is its thread's path, whose root is at most that of the graph's last thread, a colon and its number in
+/// the thread. The first line at fault decides.
 pub fn read_schedule(alloc: Global, text: &[u8], graph: &Graph) -> Result<Schedule, ScheduleFault>
     ensures ok { IfOk result (λ s. AreStepLines graph.now (lines text.now) (steps_of s)) }
     ensures within { IfOk result (λ s. All (λ step. All (λ v. v < vertex_total graph.now) step) (steps_of s)) }
@@ -102,7 +103,7 @@ fn look_up_all(
     line: &[u8],
     before: &[u32],
 ) -> Result<Option<Vec<Option<u32>>>, AllocError>
-    ensures { IfOk result (λ r. MatchOption r (IsBadLine line.now) (λ v. Pairwise (IsLook graph.now) (words_of line.now) v.items)) }
+    ensures { IfOk result (λ r. MatchOption r (IsBadLine graph.now line.now) (λ v. Pairwise (IsLook graph.now) (words_of line.now) v.items)) }
 {
     let mut looks = Vec::new(alloc);
     let mut at = 0;
@@ -123,9 +124,9 @@ fn look_up(
     before: &[u32],
     at: &mut usize,
 ) -> Result<Option<Option<u32>>, AllocError>
-    ensures { IfOk result (λ r. MatchOption r (IsBadWord word.now) (IsLook graph.now word.now)) }
+    ensures { IfOk result (λ r. MatchOption r (IsBadWord graph.now word.now) (IsLook graph.now word.now)) }
 {
-    let Some((path, number)) = read_vertex(alloc, word)? else {
+    let Some((path, number)) = read_vertex(alloc, graph, word)? else {
         return Ok(None);
     };
     Ok(Some(find_near(graph, &path, number, before, at)))
@@ -177,14 +178,25 @@ fn all_found(alloc: Global, looks: &Vec<Option<u32>>) -> Result<Option<Vec<u32>>
     Ok(Some(step))
 }
 
+// The root of the graph's last thread, and 0 where the graph has no thread.
+fn last_root(graph: &Graph) -> u32
+    ensures { result ≡ the_last_root graph.now }
+{
+    let count = graph.thread_count();
+    if count == 0 {
+        return 0;
+    }
+    graph.path_of(count - 1).parts()[0]
+}
+
 // The path and the number of a vertex, from its text; None where that has another form.
-fn read_vertex(alloc: Global, text: &[u8]) -> Result<Option<(Path, u32)>, AllocError>
-    ensures { IfOk result (λ r. MatchOption r (IsBadWord text.now) (λ p. IsVertexText text.now (p.0, p.1))) }
+fn read_vertex(alloc: Global, graph: &Graph, text: &[u8]) -> Result<Option<(Path, u32)>, AllocError>
+    ensures { IfOk result (λ r. MatchOption r (IsBadWord graph.now text.now) (λ p. IsVertexText (the_last_root graph.now) text.now (p.0, p.1))) }
 {
     let Some((front, back)) = cut(text) else {
         return Ok(None);
     };
-    let Some(path) = read_path(alloc, front)? else {
+    let Some(path) = read_path(alloc, front, last_root(graph))? else {
         return Ok(None);
     };
     let Some(number) = read_part(back) else {

@@ -1,8 +1,9 @@
 //! Records of several roots: which of them are those of a finished job, and their graphs.
 use crate::build::{Scene, are_in_order, ended, scene_of};
-use crate::schedules::{expect_plan, expect_report};
+use crate::schedules::{expect_plan, expect_report, verdict_of};
 use cost_graph::are_finished;
 use priml_syntax::{Event, Path, Record, Records};
+use prompt_checker::{ScheduleFault, Verdict, read_schedule};
 use std::alloc::Global;
 use std::test::Fail;
 
@@ -146,6 +147,26 @@ fn report_of_two_roots(rt: HostRuntime) -> Result<(), Fail> {
     let two =
         "cores 2\nsteps 2\nresponse 0 a time 2 work 4 span 2 bound 3\nresponse 1 b time 2 work 4 span 2 bound 3\n";
     expect_report(&rt, rt.alloc(), &scene, 2, two)
+}
+
+// A schedule of roots 0 and 1 names the vertices of both, and root 2 has not the form of one of the graph's.
+#[test]
+fn schedules_of_two_roots(rt: HostRuntime) -> Result<(), Fail> {
+    let rows = [(0, None, 0, SHORT), (1, None, 1, SHORT)];
+    let scene = scene(rt.alloc(), &rows)?;
+    let schedule = read_schedule(rt.alloc(), b"1:0 0:0\n0:1 1:1\n", &scene.graph)?;
+    let verdict = verdict_of(rt.alloc(), &scene, 2, &schedule)?;
+    assert_eq!(rt; verdict, Verdict::Prompt);
+    let cases = [
+        ("1:2\n", ScheduleFault::UnknownVertex(1)),
+        ("1.0:0\n", ScheduleFault::UnknownVertex(1)),
+        ("0:0\n2:0\n", ScheduleFault::BadText(2)),
+    ];
+    for (text, want) in cases {
+        let fault = read_schedule(rt.alloc(), text.as_bytes(), &scene.graph).err();
+        assert_eq!(rt; fault, Some(want), "{text}");
+    }
+    Ok(())
 }
 
 // The scene of the rows, over two unrelated priorities.

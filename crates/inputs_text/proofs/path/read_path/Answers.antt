@@ -11,7 +11,7 @@ pub returns-then-not-is_path : goal.returns-then-not-is_path
 returns-then-not-is_path c =
     let parts = rw c.in-Some.is at c.in_ok-parts.ensures in
     let refused = rw c.deref.ensures.value at c.if-not-is_path.ensures in
-    path-refused c.args.text.now c.in-Some.parts.items parts refused
+    path-refused c.args.last c.args.text.now c.in-Some.parts.items parts refused
 
 pub of_parts-requires : goal.of_parts-requires
 of_parts-requires c =

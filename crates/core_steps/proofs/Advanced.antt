@@ -9,8 +9,8 @@ use Rattle.priml_syntax.specs.declared.event.Event.{Event}
 use Rattle.priml_syntax.specs.Values.{Outcome'}
 use Rattle.priml_syntax.specs.Paths.{same_path}
 use Rattle.core_steps.specs.declared.slot.Slot.{Slot}
-use Rattle.core_steps.specs.declared.local.Moved.{Moved as TheMoved}
-use Rattle.core_steps.specs.Fields.{LocalFields, read_local, state_of}
+use Rattle.core_steps.specs.declared.local.Made.{Made as TheMade}
+use Rattle.core_steps.specs.Fields.{LocalFields, read_boxed, read_local, state_of}
 use Rattle.core_steps.specs.Locals.{IsLocal, IsFed, ended_with}
 use Rattle.core_steps.specs.Moves.{Goes}
 use Rattle.core_steps.specs.Determined.{Fed, events_of}
@@ -90,8 +90,8 @@ module _ (job : Job) (ss : List SlotFields) (c : AreSlots job ss) (p : List ℕ)
 goes_path : (job : Job) (l : LocalFields) (w : Option Outcome') (e : Event) (child : Option LocalFields) (l' : LocalFields) → Goes job l w e child l' → l.path ≡ l'.path
 goes_path job l w e child l' g = sym (state_path job.program l g.old g.opens) ∙ (sym (step_facts job g.old w g.move g.steps).path ∙ state_path job.program l' g.move.next g.next)
 
-steps_at : {E : Type 0} (job : Job) (xs : List Slot) (p : List ℕ) (w : Option Outcome') (i : ℕ) (s s' : Slot) (r : Result TheMoved E) → SlotsRise (map read_slot xs) → i < length xs → s ≡ slice_index_or xs i s → slot_at (map read_slot xs) p ≡ Some (read_slot s) →
-    IfOk r (λ m. Goes job (read_local s.local) w m.event (option_map read_local m.child) (read_local s'.local)) → IfOk r (λ m. s'.events.items ≡ s.events.items ++ m.event ∷ []) → OnOk r (s'.local.steps ≡ s.local.steps + 1) → IfOk r (λ m. StepsAt job (map read_slot xs) p w m (map read_slot (slice_set xs i s')))
+steps_at : {E : Type 0} (job : Job) (xs : List Slot) (p : List ℕ) (w : Option Outcome') (i : ℕ) (s s' : Slot) (r : Result TheMade E) → SlotsRise (map read_slot xs) → i < length xs → s ≡ slice_index_or xs i s → slot_at (map read_slot xs) p ≡ Some (read_slot s) →
+    IfOk r (λ m. Goes job (read_local s.local) w m.event (option_map read_boxed m.child) (read_local s'.local)) → IfOk r (λ m. s'.events.items ≡ s.events.items ++ m.event ∷ []) → OnOk r (s'.local.steps ≡ s.local.steps + 1) → IfOk r (λ m. StepsAt job (map read_slot xs) p w m (map read_slot (slice_set xs i s')))
 steps_at job xs p w i s s' (Err e) rise l at found g es n = tt
 steps_at job xs p w i s s' (Ok m) rise l at found g es n =
     record {
@@ -101,12 +101,12 @@ steps_at job xs p w i s s' (Ok m) rise l at found g es n =
       goes = g;
       events = es;
       steps = n;
-      put = slot_set xs i s s' rise l (ap (λ y. y.local.path) (sym at) ∙ goes_path job (read_local s.local) w m.event (option_map read_local m.child) (read_local s'.local) g);
+      put = slot_set xs i s s' rise l (ap (λ y. y.local.path) (sym at) ∙ goes_path job (read_local s.local) w m.event (option_map read_boxed m.child) (read_local s'.local) g);
     }
 
 -- of whatever path that slot is
-pub steps_there : {E : Type 0} (job : Job) (xs : List Slot) (w : Option Outcome') (i : ℕ) (s s' : Slot) (r : Result TheMoved E) → SlotsRise (map read_slot xs) → i < length xs → s ≡ slice_index_or xs i s →
-    IfOk r (λ m. Goes job (read_local s.local) w m.event (option_map read_local m.child) (read_local s'.local)) → IfOk r (λ m. s'.events.items ≡ s.events.items ++ m.event ∷ []) → OnOk r (s'.local.steps ≡ s.local.steps + 1) → IfOk r (λ m. (p : List ℕ) → StandsAt xs p i → StepsAt job (map read_slot xs) p w m (map read_slot (slice_set xs i s')))
+pub steps_there : {E : Type 0} (job : Job) (xs : List Slot) (w : Option Outcome') (i : ℕ) (s s' : Slot) (r : Result TheMade E) → SlotsRise (map read_slot xs) → i < length xs → s ≡ slice_index_or xs i s →
+    IfOk r (λ m. Goes job (read_local s.local) w m.event (option_map read_boxed m.child) (read_local s'.local)) → IfOk r (λ m. s'.events.items ≡ s.events.items ++ m.event ∷ []) → OnOk r (s'.local.steps ≡ s.local.steps + 1) → IfOk r (λ m. (p : List ℕ) → StandsAt xs p i → StepsAt job (map read_slot xs) p w m (map read_slot (slice_set xs i s')))
 steps_there {E} job xs w i s s' (Err e) rise l at g es n = tt
 steps_there {E} job xs w i s s' (Ok m) rise l at g es n = λ p stands. steps_at {E = E} job xs p w i s s' (Ok m) rise l at (at_index xs xs p i s refl stands.1 at) g es n
 
@@ -115,7 +115,7 @@ kept_at xs i s s' (Ok m) l at e = tt
 kept_at xs i s s' (Err x) l at e = slot_kept xs i s s' l (e ∙ ap read_slot at)
 
 -- the configuration after it
-module _ (job : Job) (ss : List SlotFields) (c : AreSlots job ss) (p : List ℕ) (b : Option (List ℕ)) (w : Option Outcome') (told : IsTold job ss p b w) (m : TheMoved) (mid : List SlotFields) (k : StepsAt job ss p w m mid) where
+module _ (job : Job) (ss : List SlotFields) (c : AreSlots job ss) (p : List ℕ) (b : Option (List ℕ)) (w : Option Outcome') (told : IsTold job ss p b w) (m : TheMade) (mid : List SlotFields) (k : StepsAt job ss p w m mid) where
   pub mid_rises : SlotsRise mid
   mid_rises = subst SlotsRise (sym k.put) (put_rises k.next ss (slots_rise job ss c))
 
@@ -161,13 +161,13 @@ module _ (job : Job) (ss : List SlotFields) (c : AreSlots job ss) (p : List ℕ)
   child_counted (Some l) rs n a = added_each IsCounted (record { local = l; events = [] }) rs n a
 
   abbrev new : List SlotFields
-  new = with_slot (option_map read_local m.child) mid
+  new = with_slot (option_map read_boxed m.child) mid
 
   abbrev us : List Thread
   us = after c.threads stepper.0 k.goes.move
 
   new_reads : threads_from job.program new ≡ Some us
-  new_reads = ap (λ rs. threads_from job.program (with_slot (option_map read_local m.child) rs)) k.put ∙ all_read job.program (with_slot (option_map read_local m.child) (slot_put k.next ss)) us (child_stands (option_map read_local m.child) k.goes.move.child (slot_put k.next ss) (put moved_thread c.threads) k.goes.born mid_stands)
+  new_reads = ap (λ rs. threads_from job.program (with_slot (option_map read_boxed m.child) rs)) k.put ∙ all_read job.program (with_slot (option_map read_boxed m.child) (slot_put k.next ss)) us (child_stands (option_map read_boxed m.child) k.goes.move.child (slot_put k.next ss) (put moved_thread c.threads) k.goes.born mid_stands)
 
   next_counted : IsCounted k.next
   next_counted = k.steps ∙ (ap (λ n. n + 1) (each_slot IsCounted ss p k.old c.counted k.found) ∙ (sym (length_push k.old.events m.event) ∙ ap length (sym k.events)))
@@ -178,7 +178,7 @@ module _ (job : Job) (ss : List SlotFields) (c : AreSlots job ss) (p : List ℕ)
         threads = us;
         reads = new_reads;
         reached = reached_on job c.threads us (p ∷ []) c.reached (choice_followed job c.threads p choice_made);
-        counted = child_counted (option_map read_local m.child) mid k.goes.new (subst (AllByRecursion IsCounted) (sym k.put) (put_each IsCounted k.next ss next_counted c.counted));
+        counted = child_counted (option_map read_boxed m.child) mid k.goes.new (subst (AllByRecursion IsCounted) (sym k.put) (put_each IsCounted k.next ss next_counted c.counted));
       }
 
   advanced : Advanced job c.threads p m.event new

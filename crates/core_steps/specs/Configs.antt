@@ -12,8 +12,8 @@ use Rattle.core_steps.specs.declared.config.CoreStop.{CoreStop}
 use Rattle.core_steps.specs.declared.config.CoreStop.TheVariants.{NoThread, Ended, Waits, OutOfMemory}
 use Rattle.priml_syntax.specs.declared.value.Outcome.{Outcome}
 use Rattle.priml_syntax.specs.Read.{read_outcome}
-use Rattle.core_steps.specs.Fields.{LocalFields, read_local, state_of}
-use Rattle.core_steps.specs.declared.local.Moved.{Moved as TheMoved}
+use Rattle.core_steps.specs.Fields.{LocalFields, read_boxed, read_local, state_of}
+use Rattle.core_steps.specs.declared.local.Made.{Made as TheMade}
 use Rattle.core_steps.specs.Locals.{ended_with}
 use Rattle.core_steps.specs.Moves.{Goes}
 use Rattle.core_steps.specs.Steps.{Job, State, awaits, outcome_in}
@@ -185,11 +185,11 @@ slot_put s [] = []
 slot_put s (x ∷ ss) = if same_path x.local.path s.local.path then s ∷ ss else x ∷ slot_put s ss
 
 -- the slot of the path made a step, with this event and child
-pub record StepsAt (job : Job) (ss : List SlotFields) (p : List ℕ) (w : Option Outcome') (m : TheMoved) (new : List SlotFields) : Type 0 where
+pub record StepsAt (job : Job) (ss : List SlotFields) (p : List ℕ) (w : Option Outcome') (m : TheMade) (new : List SlotFields) : Type 0 where
   pub old : SlotFields
   pub next : SlotFields
   pub found : slot_at ss p ≡ Some old
-  pub goes : Goes job old.local w m.event (option_map read_local m.child) next.local
+  pub goes : Goes job old.local w m.event (option_map read_boxed m.child) next.local
   pub events : next.events ≡ old.events ++ m.event ∷ []
   pub steps : next.local.steps ≡ old.local.steps + 1
   pub put : new ≡ slot_put next ss

@@ -13,7 +13,7 @@ ghost use Rattle.core_steps.specs.Moves.{job_of};
 ghost use Rattle.core_steps.specs.Steps.{Job as TheJob};
 
 use crate::laws::job_is_checked;
-use crate::local::{Moved, Next};
+use crate::local::{Made, Next};
 use crate::lookup::{
     add_child, child_near, ended, find, has_ended, near_after, place_near, step_at,
 };
@@ -192,8 +192,8 @@ impl Config {
         ensures kept { OnErr result (slots_of self.new ≡ slots_of self.old) }
     {
         self.threads.reserve(1)?;
-        let moved = step_at(&mut self.threads, alloc, job, at, outcome, join)?;
-        let Moved { event, child } = moved;
+        let made = step_at(&mut self.threads, alloc, job, at, outcome, join)?;
+        let Made { event, child } = made;
         let last = add_child(&mut self.threads, alloc, child, at);
         self.near = near_after(&self.threads, &event, last);
         Ok(event)

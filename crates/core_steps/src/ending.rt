@@ -4,12 +4,12 @@ ghost use Rattle.std.specs.Prelude.{◌≡◌, ℕ, Some, None, IfOk, OnErr};
 ghost use Rattle.priml_syntax.specs.Tree.{give, branch, split};
 ghost use Rattle.priml_syntax.specs.Read.{read_code, read_tail, read_term};
 ghost use Rattle.core_steps.specs.Fields.{running, read_frame, read_local, read_mode, body_at};
-ghost use Rattle.core_steps.specs.Locals.{MovesTo};
+ghost use Rattle.core_steps.specs.Locals.{MakesTo};
 ghost use Rattle.core_steps.specs.Moves.{CanStep, job_of};
 
 use crate::given::Given;
 use crate::kinds::{Sided, side, truth};
-use crate::local::{Local, Moved, without_child};
+use crate::local::{Local, Made, without_child};
 use crate::place::Turn;
 use priml_syntax::{Block, Event, Expr, Outcome, TailForm};
 use std::alloc::{AllocError, Global};
@@ -22,11 +22,11 @@ impl Local {
         alloc: Global,
         job: &Job,
         form: &TailForm,
-    ) -> Result<Moved, AllocError>
+    ) -> Result<Made, AllocError>
         requires can { CanStep (job_of job.now) (read_local self.old) None }
         requires mode { read_mode self.old.mode ≡ running }
         requires ending { (at : ℕ) × (body_at (job_of job.now).program (read_frame self.old.top) ≡ Some (read_tail form.now at)) }
-        ensures goes { IfOk result (λ m. MovesTo (job_of job.now) self.old None m self.new) }
+        ensures goes { IfOk result (λ m. MakesTo (job_of job.now) self.old None m self.new) }
         ensures steps { self.new.steps ≡ self.old.steps }
         ensures kept { OnErr result (read_local self.new ≡ read_local self.old) }
     {
@@ -38,11 +38,11 @@ impl Local {
     }
 
     // The value of a block goes to the frame below, or ends the thread.
-    fn give(&mut self, alloc: Global, job: &Job, expr: &Expr) -> Result<Moved, AllocError>
+    fn give(&mut self, alloc: Global, job: &Job, expr: &Expr) -> Result<Made, AllocError>
         requires can { CanStep (job_of job.now) (read_local self.old) None }
         requires mode { read_mode self.old.mode ≡ running }
         requires ending { (at : ℕ) × (body_at (job_of job.now).program (read_frame self.old.top) ≡ Some (give at (read_term expr.now))) }
-        ensures goes { IfOk result (λ m. MovesTo (job_of job.now) self.old None m self.new) }
+        ensures goes { IfOk result (λ m. MakesTo (job_of job.now) self.old None m self.new) }
         ensures steps { self.new.steps ≡ self.old.steps }
         ensures kept { OnErr result (read_local self.new ≡ read_local self.old) }
     {
@@ -68,11 +68,11 @@ impl Local {
         expr: &Expr,
         a: &Block,
         b: &Block,
-    ) -> Result<Moved, AllocError>
+    ) -> Result<Made, AllocError>
         requires can { CanStep (job_of job.now) (read_local self.old) None }
         requires mode { read_mode self.old.mode ≡ running }
         requires ending { (at : ℕ) × (body_at (job_of job.now).program (read_frame self.old.top) ≡ Some (branch at (read_term expr.now) (read_code a.now) (read_code b.now))) }
-        ensures goes { IfOk result (λ m. MovesTo (job_of job.now) self.old None m self.new) }
+        ensures goes { IfOk result (λ m. MakesTo (job_of job.now) self.old None m self.new) }
         ensures steps { self.new.steps ≡ self.old.steps }
         ensures kept { OnErr result (read_local self.new ≡ read_local self.old) }
     {
@@ -101,11 +101,11 @@ impl Local {
         expr: &Expr,
         a: &Block,
         b: &Block,
-    ) -> Result<Moved, AllocError>
+    ) -> Result<Made, AllocError>
         requires can { CanStep (job_of job.now) (read_local self.old) None }
         requires mode { read_mode self.old.mode ≡ running }
         requires ending { (at : ℕ) × (body_at (job_of job.now).program (read_frame self.old.top) ≡ Some (split at (read_term expr.now) (read_code a.now) (read_code b.now))) }
-        ensures goes { IfOk result (λ m. MovesTo (job_of job.now) self.old None m self.new) }
+        ensures goes { IfOk result (λ m. MakesTo (job_of job.now) self.old None m self.new) }
         ensures steps { self.new.steps ≡ self.old.steps }
         ensures kept { OnErr result (read_local self.new ≡ read_local self.old) }
     {

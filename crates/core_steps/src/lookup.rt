@@ -7,14 +7,14 @@ ghost use Rattle.std.specs.Option.{is_some, option_copied, option_map};
 ghost use Rattle.std.specs.Ordering.{nat_cmp, is_lt};
 ghost use Rattle.std.specs.Cmp.Lexicographic.{slice_cmp};
 ghost use Rattle.priml_syntax.specs.Read.{read_outcome};
-ghost use Rattle.core_steps.specs.Fields.{read_local};
+ghost use Rattle.core_steps.specs.Fields.{read_boxed, read_local};
 ghost use Rattle.core_steps.specs.Locals.{read_awaited};
 ghost use Rattle.core_steps.specs.Configs.{AreSlots, IsEnded, IsTold, SlotsRise, StandsAt, StepsAt, outcome_of as the_outcome, read_slot, slot_added, slot_at, with_slot};
 ghost use Rattle.core_steps.specs.declared.slot.Slot.{Slot as TheSlot};
 ghost use Rattle.core_steps.specs.Moves.{job_of};
 
 use crate::config::CoreStop;
-use crate::local::{Local, Moved};
+use crate::local::{Local, Made};
 use crate::slot::Slot;
 use priml_syntax::{Event, Outcome, Path};
 use std::alloc::{AllocError, Global};
@@ -148,15 +148,15 @@ fn is_last(slots: &[Slot], path: &Path) -> bool
 pub(crate) fn add_child(
     threads: &mut Vec<Slot>,
     alloc: Global,
-    child: Option<Local>,
+    child: Option<Box<Local>>,
     parent: usize,
 ) -> usize
     requires rise { SlotsRise (map read_slot threads.old.items) }
     requires room { vec_len threads.old < vec_capacity threads.old }
-    ensures { map read_slot threads.new.items ≡ with_slot (option_map read_local child) (map read_slot threads.old.items) }
+    ensures { map read_slot threads.new.items ≡ with_slot (option_map read_boxed child) (map read_slot threads.old.items) }
 {
     match child {
-        Some(child) => add(threads, alloc, child, parent),
+        Some(child) => add(threads, alloc, Box::into_inner(child), parent),
         None => parent,
     }
 }
@@ -189,7 +189,7 @@ pub(crate) fn step_at(
     at: usize,
     outcome: Option<&Outcome>,
     join: Option<Path>,
-) -> Result<Moved, AllocError>
+) -> Result<Made, AllocError>
     requires slots { AreSlots (job_of job.now) (map read_slot threads.old.items) }
     requires there { at < length threads.old.items }
     requires told { (p : List ℕ) → StandsAt threads.old.items p at → IsTold (job_of job.now) (map read_slot threads.old.items) p join (read_awaited outcome) }

@@ -7,12 +7,12 @@ ghost use Rattle.std.specs.declared.alloc.Global.{Global as TheGlobal};
 ghost use Rattle.priml_syntax.specs.Read.{read_outcome, read_record};
 ghost use Rattle.priml_syntax.specs.declared.record.Record.{Record as TheRecord};
 ghost use Rattle.core_steps.specs.Fields.{read_local, read_mode};
-ghost use Rattle.core_steps.specs.Locals.{IsFed, IsLocal, MovesTo, ended_with, read_awaited};
+ghost use Rattle.core_steps.specs.Locals.{IsFed, IsLocal, MakesTo, ended_with, read_awaited};
 ghost use Rattle.core_steps.specs.Configs.{IsCounted, JoinsAt, all_end, entry_from, read_slot, records_from, thread_of};
 ghost use Rattle.core_steps.specs.Moves.{job_of};
 ghost use Rattle.core_steps.specs.Steps.{root_state};
 
-use crate::local::{Local, Mode, Moved};
+use crate::local::{Local, Made, Mode};
 use priml_syntax::{Event, Outcome, Path, Record};
 use std::alloc::{AllocError, Global};
 use type_rules::Job;
@@ -34,21 +34,21 @@ impl Slot {
         job: &Job,
         outcome: Option<&Outcome>,
         join: Option<Path>,
-    ) -> Result<Moved, AllocError>
+    ) -> Result<Made, AllocError>
         requires state { IsLocal (job_of job.now) (read_local self.old.local) }
         requires counted { self.old.local.steps ≡ length self.old.events.items }
         requires live { ended_with (read_mode self.old.local.mode) ≡ None }
         requires fed { IsFed (job_of job.now) (read_local self.old.local) (read_awaited outcome) }
         requires joins { JoinsAt (job_of job.now) (read_local self.old.local) join }
-        ensures goes { IfOk result (λ m. MovesTo (job_of job.now) self.old.local (read_awaited outcome.entry) m self.new.local) }
+        ensures goes { IfOk result (λ m. MakesTo (job_of job.now) self.old.local (read_awaited outcome.entry) m self.new.local) }
         ensures events { IfOk result (λ m. self.new.events.items ≡ self.old.events.items ++ m.event ∷ []) }
         ensures steps { OnOk result (self.new.local.steps ≡ self.old.local.steps + 1) }
         ensures kept { OnErr result (read_slot self.new ≡ read_slot self.old) }
     {
         self.events.reserve(1)?;
-        let moved = self.local.step(alloc, job, outcome)?;
-        self.events.push(twin(&moved.event, join)).unwrap();
-        Ok(moved)
+        let made = self.local.take_step(alloc, job, outcome)?;
+        self.events.push(twin(&made.event, join)).unwrap();
+        Ok(made)
     }
 }
 

@@ -16,17 +16,17 @@ step_at-requires-clause-told c = λ p stands.
 
 pub add_child-last-requires-clause-rise : goal.add_child-last-requires-clause-rise
 add_child-last-requires-clause-rise c =
-    went_rises (job_of c.args.job.now) c.args.self.now c.reserve.new.self.items c.step_at.new.threads.items c.args.at c.args.join (read_awaited c.args.outcome) c.in_ok-moved.moved c.requires.config c.requires.there c.requires.told (c.reserve.ensures.items ∙ c.self.view_is) c.in_ok-moved.ensures.goes
+    went_rises (job_of c.args.job.now) c.args.self.now c.reserve.new.self.items c.step_at.new.threads.items c.args.at c.args.join (read_awaited c.args.outcome) c.in_ok-made.made c.requires.config c.requires.there c.requires.told (c.reserve.ensures.items ∙ c.self.view_is) c.in_ok-made.ensures.goes
 
 pub returns-clause-goes : goal.returns-clause-goes
 returns-clause-goes c = λ p stands.
-    subst (Advances (job_of c.args.job.now) (slots_of c.args.self.now) p c.in_ok-moved.moved.event) (sym c.add_child-last.ensures)
-    (went_on (job_of c.args.job.now) c.args.self.now c.reserve.new.self.items c.step_at.new.threads.items c.args.at c.args.join (read_awaited c.args.outcome) c.in_ok-moved.moved c.requires.config c.requires.there c.requires.told (c.reserve.ensures.items ∙ c.self.view_is) c.in_ok-moved.ensures.goes p stands)
+    subst (Advances (job_of c.args.job.now) (slots_of c.args.self.now) p c.in_ok-made.made.event) (sym c.add_child-last.ensures)
+    (went_on (job_of c.args.job.now) c.args.self.now c.reserve.new.self.items c.step_at.new.threads.items c.args.at c.args.join (read_awaited c.args.outcome) c.in_ok-made.made c.requires.config c.requires.there c.requires.told (c.reserve.ensures.items ∙ c.self.view_is) c.in_ok-made.ensures.goes p stands)
 
 pub returns-clause-config : goal.returns-clause-config
 returns-clause-config c = subst (AreSlots (job_of c.args.job.now)) (sym c.add_child-last.ensures)
-    (went_slots (job_of c.args.job.now) c.args.self.now c.reserve.new.self.items c.step_at.new.threads.items c.args.at c.args.join (read_awaited c.args.outcome) c.in_ok-moved.moved c.requires.config c.requires.there c.requires.told (c.reserve.ensures.items ∙ c.self.view_is) c.in_ok-moved.ensures.goes)
+    (went_slots (job_of c.args.job.now) c.args.self.now c.reserve.new.self.items c.step_at.new.threads.items c.args.at c.args.join (read_awaited c.args.outcome) c.in_ok-made.made c.requires.config c.requires.there c.requires.told (c.reserve.ensures.items ∙ c.self.view_is) c.in_ok-made.ensures.goes)
 
 pub invariant_of-self-2 : goal.invariant_of-self-2
 invariant_of-self-2 c = kept_slots (job_of c.args.job.now) (map read_slot c.add_child-last.new.threads.items) (subst (AreSlots (job_of c.args.job.now)) (sym c.add_child-last.ensures)
-    (went_slots (job_of c.args.job.now) c.args.self.now c.reserve.new.self.items c.step_at.new.threads.items c.args.at c.args.join (read_awaited c.args.outcome) c.in_ok-moved.moved c.requires.config c.requires.there c.requires.told (c.reserve.ensures.items ∙ c.self.view_is) c.in_ok-moved.ensures.goes))
+    (went_slots (job_of c.args.job.now) c.args.self.now c.reserve.new.self.items c.step_at.new.threads.items c.args.at c.args.join (read_awaited c.args.outcome) c.in_ok-made.made c.requires.config c.requires.there c.requires.told (c.reserve.ensures.items ∙ c.self.view_is) c.in_ok-made.ensures.goes))

@@ -1,10 +1,10 @@
 -- What an end has stays ds it changes.
-use Rattle.std.proofs.Common.{◌≡◌, ℕ, zero, suc, ◌<◌, List, [], ◌∷◌, length, map, Option, None, Some, Result, Ok, Err, Vec, Global, set, length-set, sym, refl, ap, ◌∙◌, subst}
+use Rattle.std.proofs.Common.{◌≡◌, ℕ, zero, suc, List, [], ◌∷◌, length, map, Option, None, Some, Result, Ok, Err, Vec, Global, set, length-set, sym, refl, ap, ◌∙◌, subst}
 use lib.ListN.{length-map}
 use lib.Seq.{map-set}
 use Rattle.std.specs.Prelude.{slice_get, MatchOption, OnOk, IfErr, IfSome}
 use Rattle.std.specs.List.{AllByRecursion, AllZip}
-use Rattle.std.proofs.lemmas.Option.{same_Some, none-some}
+use Rattle.std.proofs.lemmas.Option.{same_Some}
 use Rattle.type_rules.specs.Jobs.{WithInputs}
 use Rattle.core_steps.specs.Moves.{job_of}
 use Rattle.task_state.specs.Tasks.{TaskFields, read_task}

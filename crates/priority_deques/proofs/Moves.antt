@@ -1,5 +1,5 @@
 -- Each move keeps the rule of a deque.
-use Rattle.std.proofs.Common.{◌≡◌, ℕ, zero, suc, ◌+◌, ◌<◌, ◌≤◌, List, [], ◌∷◌, ◌++◌, map, length, set, Option, Some, None, sym, refl, ap, ◌∙◌, subst, ⊎_elim, inl, inr, arith}
+use Rattle.std.proofs.Common.{◌≡◌, ℕ, zero, suc, ◌+◌, List, [], ◌∷◌, ◌++◌, set, Some, sym, refl, ap, ◌∙◌, subst, ⊎_elim, inl, inr, arith}
 use Rattle.std.proofs.lemmas.Option.{same_Some, none-some}
 use mathlib.Core.Option.{some, some-ne-none, some-injective}
 use lib.ListN.{get_elem?}
@@ -9,7 +9,7 @@ use Rattle.type_rules.specs.Jobs.{WithInputs}
 use Rattle.task_state.specs.declared.task.Task.{Task}
 use Rattle.task_state.specs.Tasks.{TaskKey}
 use Rattle.priority_deques.specs.declared.view.LaneView.{LaneView}
-use Rattle.priority_deques.specs.Rule.{AllFit, Balanced, Each, HasPut, HasTaken, IsLaneDeque, Kept, key, keys, newcomer, total, unnamed}
+use Rattle.priority_deques.specs.Rule.{AllFit, Each, HasPut, HasTaken, IsLaneDeque, Kept, key, keys, newcomer, total, unnamed}
 use Rattle.priority_deques.proofs.Sums.{each_set, total_append, total_same, total_set}
 
 fit_left : (job : WithInputs) (lane : ℕ) (xs ys : List Task) → AllFit job lane (xs ++ ys) → AllFit job lane xs

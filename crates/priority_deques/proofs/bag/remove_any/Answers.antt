@@ -1,4 +1,4 @@
-use Rattle.std.proofs.Common.{rules, ◌≡◌, ◌<◌, ◌+◌, suc, List, length, map, sym, refl, ◌∙◌, subst, arith}
+use Rattle.std.proofs.Common.{rules, ◌≡◌, ◌<◌, ◌+◌, List, length, map, sym, refl, subst, arith}
 use Rattle.std.proofs.lemmas.Option.{slice_get_read}
 use lib.ListN.{length-map}
 use lib.Seq.{map-set}

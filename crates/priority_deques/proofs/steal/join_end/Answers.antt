@@ -1,4 +1,4 @@
-use Rattle.std.proofs.Common.{rules, ◌≡◌, ◌+◌, ◌<◌, List, length, sym, refl, ◌∙◌, subst, length-set, arith}
+use Rattle.std.proofs.Common.{rules, ◌≡◌, ◌<◌, length, refl, ◌∙◌, subst, length-set, arith}
 use Rattle.std.proofs.lemmas.Option.{slice_get_read}
 use Rattle.priority_deques.specs.Ends.{lane_count}
 use Rattle.priority_deques.specs.Inside.Opening.{Ready}

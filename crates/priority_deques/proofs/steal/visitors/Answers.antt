@@ -1,4 +1,4 @@
-use Rattle.std.proofs.Common.{rules, ◌≡◌, ◌+◌, ◌%◌, ◌<◌, List, length, map, sym, refl, ap, ◌∙◌, subst, length-set}
+use Rattle.std.proofs.Common.{rules, ◌+◌, ◌%◌, ◌<◌, List, length, map, sym, refl, ap, ◌∙◌, subst, length-set}
 use Rattle.std.proofs.lemmas.List.{length_push}
 use Rattle.std.proofs.lemmas.Option.{slice_get_read}
 use Rattle.priority_deques.specs.declared.handles.TheirDeque.{TheirDeque}

@@ -1,4 +1,4 @@
-use Rattle.std.proofs.Common.{rules, ◌≡◌, ◌<◌, List, length, map, sym, refl, subst}
+use Rattle.std.proofs.Common.{List, length, map, sym, refl, subst}
 use Rattle.std.proofs.lemmas.Option.{slice_get_read}
 use lib.Seq.{map-set}
 use Rattle.task_state.specs.Tasks.{read_task}

@@ -1,4 +1,4 @@
-use Rattle.std.proofs.Common.{◌≡◌, ◌∷◌, length, map, set, refl, sym, ap, ◌∙◌}
+use Rattle.std.proofs.Common.{◌∷◌, length, map, set, refl, sym, ap, ◌∙◌}
 use Rattle.std.proofs.lemmas.Option.{same_Some, slice_get_read}
 use lib.Seq.{map-set}
 use Rattle.priority_deques.specs.declared.handles.OwnDeque.{OwnDeque}

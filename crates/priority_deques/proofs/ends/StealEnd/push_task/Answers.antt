@@ -1,5 +1,5 @@
 use Rattle.task_state.specs.Tasks.{read_task}
-use Rattle.priority_deques.specs.Handles.{own_book, shared_book, their_book}
+use Rattle.priority_deques.specs.Handles.{own_book, their_book}
 use Rattle.priority_deques.proofs.Keeps.{fits_own, put_end}
 use Rattle.priority_deques.proofs.ends.StealEnd.push_task.Goals as goal
 

@@ -1,5 +1,5 @@
 use Rattle.std.proofs.Common.{◌≡◌, length, refl, sym, ◌∙◌, subst}
-use Rattle.std.specs.Prelude.{slice_get, IfOk, Some}
+use Rattle.std.specs.Prelude.{IfOk}
 use Rattle.std.proofs.lemmas.Option.{slice_get_read}
 use Rattle.priority_deques.specs.Ends.{IsEndOf, fresh_book}
 use Rattle.priority_deques.specs.Handles.{own_book, their_book}

@@ -1,4 +1,4 @@
-use Rattle.std.proofs.Common.{◌≡◌, ℕ, ◌<◌, length}
+use Rattle.std.proofs.Common.{◌≡◌, ◌<◌, length}
 use Rattle.priority_order.specs.Order.{HasLane}
 use Rattle.priority_deques.proofs.Lists.{EachAt}
 use Rattle.priority_deques.proofs.table.LaneTable.of.Given as goal

@@ -1,12 +1,13 @@
 ghost use Rattle.std.specs.Prelude.{◌≡◌, ◌++◌, codes, OnOk};
 ghost use Rattle.std.specs.String.{string_bytes};
+ghost use Rattle.std.specs.Fmt.{signed_decimal};
 ghost use Rattle.priml_syntax.specs.Read.{read_value, read_outcome};
 ghost use Rattle.priml_syntax.specs.Text.{path_text};
 ghost use Rattle.serial_meaning.specs.RunText.{value_text, fault_text, outcome_text};
 
+use itoa::Buffer;
 use priml_syntax::{FaultKind, Outcome, Path, Value, push_path};
 use std::alloc::AllocError;
-use std::fmt::Write;
 
 // Appends how a thread ended.
 pub(crate) fn push_outcome(text: &mut String, outcome: &Outcome) -> Result<(), AllocError>
@@ -14,11 +15,11 @@ pub(crate) fn push_outcome(text: &mut String, outcome: &Outcome) -> Result<(), A
 {
     match outcome {
         Outcome::Value(value) => {
-            write!(text, "value ")?;
+            text.push_str("value ")?;
             push_value(text, value)
         }
         Outcome::Fault(fault) => {
-            write!(text, "fault ")?;
+            text.push_str("fault ")?;
             push_fault(text, *fault)
         }
     }
@@ -29,9 +30,9 @@ fn push_fault(text: &mut String, fault: FaultKind) -> Result<(), AllocError>
     ensures { OnOk result (string_bytes text.new ≡ string_bytes text.old ++ fault_text fault) }
 {
     match fault {
-        FaultKind::Overflow => write!(text, "overflow"),
-        FaultKind::Zero => write!(text, "zero"),
-        FaultKind::Depth => write!(text, "depth"),
+        FaultKind::Overflow => text.push_str("overflow"),
+        FaultKind::Zero => text.push_str("zero"),
+        FaultKind::Depth => text.push_str("depth"),
     }
 }
 
@@ -41,25 +42,33 @@ fn push_value(text: &mut String, value: &Value) -> Result<(), AllocError>
     ensures { OnOk result (string_bytes text.new ≡ string_bytes text.old ++ value_text (read_value value.now)) }
 {
     match value {
-        Value::Unit => write!(text, "()"),
-        Value::Bool(true) => write!(text, "true"),
-        Value::Bool(false) => write!(text, "false"),
-        Value::Int(n) => write!(text, "{n}"),
+        Value::Unit => text.push_str("()"),
+        Value::Bool(true) => text.push_str("true"),
+        Value::Bool(false) => text.push_str("false"),
+        Value::Int(n) => push_number(text, *n),
         Value::Pair(a, b) => {
             push_behind(text, "(", a)?;
             push_behind(text, ", ", b)?;
-            write!(text, ")")
+            text.push_str(")")
         }
         Value::Inl(a) => {
             push_behind(text, "inl(", a)?;
-            write!(text, ")")
+            text.push_str(")")
         }
         Value::Inr(a) => {
             push_behind(text, "inr(", a)?;
-            write!(text, ")")
+            text.push_str(")")
         }
         Value::Thread(path, _prio) => push_name(text, path),
     }
+}
+
+// Appends a number.
+pub(crate) fn push_number(text: &mut String, number: i64) -> Result<(), AllocError>
+    ensures { OnOk result (string_bytes text.new ≡ string_bytes text.old ++ signed_decimal number) }
+{
+    let mut buffer = Buffer::new();
+    text.push_str(buffer.format(number))
 }
 
 // Appends a value behind what opens it.
@@ -67,7 +76,7 @@ fn push_value(text: &mut String, value: &Value) -> Result<(), AllocError>
 fn push_behind(text: &mut String, opening: &str, value: &Value) -> Result<(), AllocError>
     ensures { OnOk result (string_bytes text.new ≡ string_bytes text.old ++ (opening.now ++ value_text (read_value value.now))) }
 {
-    write!(text, "{opening}")?;
+    text.push_str(opening)?;
     push_value(text, value)
 }
 
@@ -75,7 +84,7 @@ fn push_behind(text: &mut String, opening: &str, value: &Value) -> Result<(), Al
 fn push_name(text: &mut String, path: &Path) -> Result<(), AllocError>
     ensures { OnOk result (string_bytes text.new ≡ string_bytes text.old ++ (codes "thread(" ++ path_text path.now ++ codes ")")) }
 {
-    write!(text, "thread(")?;
+    text.push_str("thread(")?;
     push_path(text, path)?;
-    write!(text, ")")
+    text.push_str(")")
 }

@@ -9,6 +9,7 @@ ghost use Rattle.serial_meaning.specs.RunText.{thread_line, record_lines, run_li
 
 use crate::outcome::push_outcome;
 use crate::written::push_out;
+use itoa::Buffer;
 use priml_syntax::{Record, Records, push_path};
 use priority_order::Order;
 use std::alloc::{AllocError, Global};
@@ -53,7 +54,7 @@ fn push_thread(text: &mut String, order: &Order, thread: &Record) -> Result<(), 
     requires { thread.now.prio < length order.now.names }
     ensures { OnOk result (string_bytes text.new ≡ string_bytes text.old ++ thread_line order.now.names (read_record thread.now)) }
 {
-    write!(text, "thread ")?;
+    text.push_str("thread ")?;
     push_path(text, &thread.path)?;
     push_counted(
         text,
@@ -61,14 +62,19 @@ fn push_thread(text: &mut String, order: &Order, thread: &Record) -> Result<(), 
         thread.events.as_slice().len(),
     )?;
     push_outcome(text, &thread.outcome)?;
-    writeln!(text)
+    text.push_str("\n")
 }
 
 // Appends what stands between a thread's path and its outcome.
 fn push_counted(text: &mut String, name: &str, steps: usize) -> Result<(), AllocError>
     ensures { OnOk result (string_bytes text.new ≡ string_bytes text.old ++ (codes " " ++ name.now ++ codes " " ++ decimal steps ++ codes " ")) }
 {
-    write!(text, " {name} {steps} ")
+    let mut buffer = Buffer::new();
+    text.push_str(" ")?;
+    text.push_str(name)?;
+    text.push_str(" ")?;
+    text.push_str(buffer.format(steps))?;
+    text.push_str(" ")
 }
 
 // The number of all events. It is exact: fewer than 2^63 records have fewer than 2^64 events each.

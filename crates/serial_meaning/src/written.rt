@@ -3,9 +3,9 @@ ghost use Rattle.std.specs.String.{string_bytes};
 ghost use Rattle.std.specs.List.{flat_map, list_any};
 ghost use Rattle.serial_meaning.specs.RunText.{is_written, written_text, out_line};
 
+use crate::outcome::push_number;
 use priml_syntax::Event;
 use std::alloc::AllocError;
-use std::fmt::Write;
 
 // Appends the line of the numbers that the events wrote, where there is one.
 pub(crate) fn push_out(text: &mut String, events: &[Event]) -> Result<(), AllocError>
@@ -14,9 +14,9 @@ pub(crate) fn push_out(text: &mut String, events: &[Event]) -> Result<(), AllocE
     if !has_written(events) {
         return Ok(());
     }
-    write!(text, "out")?;
+    text.push_str("out")?;
     push_numbers(text, events)?;
-    writeln!(text)
+    text.push_str("\n")
 }
 
 // Whether one of the events wrote a number.
@@ -36,17 +36,20 @@ fn push_numbers(text: &mut String, events: &[Event]) -> Result<(), AllocError>
     ensures { OnOk result (string_bytes text.new ≡ string_bytes text.old ++ flat_map written_text events.now) }
 {
     for event in events {
-        push_number(text, event)?;
+        push_written(text, event)?;
     }
     Ok(())
 }
 
 // Appends the number that the event wrote, if it wrote one, with a space before it.
-fn push_number(text: &mut String, event: &Event) -> Result<(), AllocError>
+fn push_written(text: &mut String, event: &Event) -> Result<(), AllocError>
     ensures { OnOk result (string_bytes text.new ≡ string_bytes text.old ++ written_text event.now) }
 {
     match event {
-        Event::Wrote(number) => write!(text, " {number}"),
+        Event::Wrote(number) => {
+            text.push_str(" ")?;
+            push_number(text, *number)
+        }
         _ => Ok(()),
     }
 }

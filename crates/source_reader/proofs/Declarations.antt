@@ -75,6 +75,11 @@ so_far env ds (priority n) names called pairs p q r = ap (λ v. again_faults n v
 so_far env ds (order at m n) names called pairs p q r = ap (λ k. room_faults at k 256 Pairs ++ (prio_faults env m ++ prio_faults env n)) (sym (length-map pairs read_pair) ∙ ap length r ∙ pairs_long env.prios ds)
 so_far env ds (procedure f) names called pairs p q r = ap (λ v. again_faults f.name v 256 Procedures ++ procedure_faults env f) q
 
+-- the same where the walk knows the environment by another name
+pub seen_so_far : {now env : Env} (ds : List Declaration) (d : Declaration) {names called : List ℕ} (pairs : List (ℕ × ℕ × ℕ)) → now ≡ env → names ≡ priorities ds → called ≡ procedures ds → map read_pair pairs ≡ pairs_meant env.prios ds
+    → declared_faults now d names (length pairs) called ≡ decl_faults env d ds
+seen_so_far {env = env} ds d {names} {called} pairs same p q r = ap (λ v. declared_faults v d names (length pairs) called) same ∙ so_far env ds d names called pairs p q r
+
 -- each declared priority is one of the text's names
 pub declared_fit : (n : ℕ) (ds : List Declaration) → DeclsFit n ds → (k d : ℕ) → k < length (priorities ds) → get_or (priorities ds) k d < n
 declared_fit n [] h k d l = absurd (omega arith)

@@ -4,6 +4,8 @@
 #[cfg(test)]
 mod build;
 #[cfg(test)]
+mod nested;
+#[cfg(test)]
 mod parents;
 #[cfg(test)]
 mod roots;

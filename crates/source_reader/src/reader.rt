@@ -28,7 +28,7 @@ use source_grammar::raw::RawProgram;
 use source_grammar::{ParseStop, parse};
 use source_tokens::lexer::{Lexed, lex};
 use source_tokens::token::{Stop, Token};
-use std::alloc::{AllocError, Global};
+use std::alloc::Global;
 use std::mem::forget;
 
 /// Why a text gives no program. Each but the last has the offset of a byte. The tokens of the whole text are looked at first, and of their faults the
@@ -51,16 +51,6 @@ pub enum SourceFault {
     TooMany(u64, What),
     /// 8: the program does not fit in memory.
     OutOfMemory,
-}
-
-impl From<AllocError> for SourceFault {
-    ghost use Rattle.source_reader.specs.declared.reader.SourceFault.TheVariants.{OutOfMemory};
-
-    ghost from_gives = { λ _ e. e ≡ OutOfMemory };
-
-    fn from(_error: AllocError) -> SourceFault {
-        SourceFault::OutOfMemory
-    }
 }
 
 /// The program that a text stands for; it is the only one. Where it stands for none, its fault.
@@ -115,11 +105,14 @@ fn written(alloc: Global, text: &[u8]) -> Result<SourceTree, SourceFault>
     ensures only { IfOk result (λ w. (ns : List (List ℕ)) (q : RawTree) → IsWrittenAs text.now ns q → (ns ≡ name_bytes w.names) × (q ≡ read_raw w.raw)) }
     ensures refused { IfErr result (Refuses text.now) }
 {
+    let Ok(lexed) = lex(alloc, text) else {
+        return Err(SourceFault::OutOfMemory);
+    };
     let Lexed {
         tokens,
         names,
         stop,
-    } = lex(alloc, text)?;
+    } = lexed;
     let raw = whole(alloc, text, &tokens, stop)?;
     Ok(SourceTree { names, raw })
 }

@@ -75,8 +75,8 @@ fn last_of(steps: &Vec<Vec<u32>>) -> &[u32] {
     }
 }
 
-// Reads the line of this number. Its vertices are the sooner found the more of them stand in the order of the step
-// before, where each stands for its thread.
+// Reads the line of this number. `before` is the step before: a vertex whose thread has one there, in about the same
+// place, is found sooner.
 fn read_step(
     alloc: Global,
     graph: &Graph,

@@ -15,7 +15,8 @@ use Rattle.std.proofs.lemmas.List.{get_or-append_right}
 use Rattle.std.proofs.Math.ListN.{get_or-append}
 use Rattle.cost_graph.specs.declared.graph.Thread.{Thread}
 use Rattle.cost_graph.specs.Graph.{IsOwner, no_thread}
-use Rattle.cost_graph.specs.View.{lists}
+use Rattle.cost_graph.specs.View.{lists, short_lists}
+use Rattle.smallvec.specs.SmallVec.{SmallVec}
 use Rattle.cost_graph.proofs.Members.{decides_eq, member_or_not, no_member, member_cons, member_head}
 
 -- a number of a rising list is not among those before it
@@ -79,6 +80,15 @@ lists_set xs i x = map-set (λ (l : Vec ℕ Global). l.items) xs i x
 
 pub lists_length : (xs : List (Vec ℕ Global)) → length (lists xs) ≡ length xs
 lists_length xs = length-map xs (λ (l : Vec ℕ Global). l.items)
+
+pub short_at : (xs : List (SmallVec ℕ)) (i : ℕ) (x : SmallVec ℕ) → i < length xs → x ≡ get_or xs i x → get_or (short_lists xs) i [] ≡ x.items
+short_at xs i x lt e = get_or-map (λ (l : SmallVec ℕ). l.items) xs i x [] lt ∙ ap (λ (l : SmallVec ℕ). l.items) (sym e)
+
+pub short_set : (xs : List (SmallVec ℕ)) (i : ℕ) (x : SmallVec ℕ) → short_lists (set xs i x) ≡ set (short_lists xs) i x.items
+short_set xs i x = map-set (λ (l : SmallVec ℕ). l.items) xs i x
+
+pub short_length : (xs : List (SmallVec ℕ)) → length (short_lists xs) ≡ length xs
+short_length xs = length-map xs (λ (l : SmallVec ℕ). l.items)
 
 -- the vertices of one thread more have their owner
 pub owners_on : (ts : List Thread) (parents : List (List ℕ)) (t : ℕ) (now next : List ℕ) → t < length ts → length now ≡ sum_by (λ (x : Thread). x.vertices) (take t ts) → next ≡ now ++ replicate (get_or ts t no_thread).vertices t

@@ -2,6 +2,7 @@
 use Rattle.std.specs.Prelude.{ℕ, ◌<◌, List, [], map, length, get_or, ◌≡◌}
 use Rattle.std.specs.declared.vec.Vec.{Vec}
 use Rattle.std.specs.declared.alloc.Global.{Global}
+use Rattle.smallvec.specs.SmallVec.{SmallVec}
 use Rattle.cost_graph.specs.declared.graph.Thread.{Thread}
 use Rattle.cost_graph.specs.Graph.{CostGraph, IsGraph, IsOwner, vertex_total, thread_total, first_vertex, children_at}
 use Rattle.cost_graph.specs.declared.graph.Graph.TheInside.{Inside}
@@ -9,6 +10,10 @@ use Rattle.cost_graph.specs.declared.graph.Graph.TheInside.{Inside}
 -- a list of vectors as a list of lists
 abbrev pub lists : List (Vec ℕ Global) → List (List ℕ)
 lists = map (λ (l : Vec ℕ Global). l.items)
+
+-- the same of vectors that keep a few numbers in themselves
+abbrev pub short_lists : List (SmallVec ℕ) → List (List ℕ)
+short_lists = map (λ (l : SmallVec ℕ). l.items)
 
 abbrev pub graph_of : List Thread → List (Vec ℕ Global) → CostGraph
 graph_of threads parents = record { threads = threads; parents = lists parents }
@@ -33,6 +38,6 @@ pub record AreOwners (g : CostGraph) (owners : List ℕ) : Type 0 where
 
 pub record IsKept (a : Inside) : Type 0 where
   pub graph : IsGraph (view a)
-  pub turned : IsTurned (view a) (lists a.children.items)
+  pub turned : IsTurned (view a) (short_lists a.children.items)
   pub firsts : AreFirsts (view a) a.firsts.items
   pub owners : AreOwners (view a) a.owners.items

@@ -3,9 +3,10 @@ ghost use Rattle.std.specs.List.{All, Contains, sum_by, list_any};
 ghost use Rattle.std.specs.List.Sorted.{IsStrictlyIncreasing};
 ghost use Rattle.cost_graph.specs.declared.graph.Thread.{Thread as TheThread};
 ghost use Rattle.cost_graph.specs.Graph.{IsGraph, IsOwner, Edge};
-ghost use Rattle.cost_graph.specs.View.{IsTurned, AreFirsts, AreOwners, graph_of, lists};
+ghost use Rattle.cost_graph.specs.View.{IsTurned, AreFirsts, AreOwners, graph_of, lists, short_lists};
 
 use crate::graph::Thread;
+use smallvec::SmallVec;
 use std::alloc::{AllocError, Global};
 
 /// For each thread its first vertex.
@@ -47,11 +48,14 @@ fn add_times(numbers: &mut Vec<u32>, number: u32, times: u32) -> Result<(), Allo
 }
 
 /// For each vertex its children, ascending, where `parents` has the parents of each.
-pub(crate) fn turn(alloc: Global, parents: &Vec<Vec<u32>>) -> Result<Vec<Vec<u32>>, AllocError>
+pub(crate) fn turn(
+    alloc: Global,
+    parents: &Vec<Vec<u32>>,
+) -> Result<Vec<SmallVec<u32, 4>>, AllocError>
     requires ends { (u v : ℕ) → Edge (record { threads = []; parents = lists parents.now.items }) u v → u < length parents.now.items }
     requires rising { (v : ℕ) → IsStrictlyIncreasing (get_or (lists parents.now.items) v []) }
     requires small { length parents.now.items < 2 ^ 32 }
-    ensures { IfOk result (λ c. IsTurned (record { threads = []; parents = lists parents.now.items }) (lists c.items)) }
+    ensures { IfOk result (λ c. IsTurned (record { threads = []; parents = lists parents.now.items }) (short_lists c.items)) }
 {
     let mut children = empty_lists(alloc, parents.len())?;
     for v in 0..parents.len() {
@@ -65,9 +69,9 @@ pub(crate) fn tables(
     alloc: Global,
     threads: &Vec<Thread>,
     parents: &Vec<Vec<u32>>,
-) -> Result<(Vec<Vec<u32>>, Vec<u32>, Vec<u32>), AllocError>
+) -> Result<(Vec<SmallVec<u32, 4>>, Vec<u32>, Vec<u32>), AllocError>
     requires { IsGraph (graph_of threads.now.items parents.now.items) }
-    ensures turned { IfOk result (λ t. IsTurned (graph_of threads.now.items parents.now.items) (lists t.0.items)) }
+    ensures turned { IfOk result (λ t. IsTurned (graph_of threads.now.items parents.now.items) (short_lists t.0.items)) }
     ensures firsts { IfOk result (λ t. AreFirsts (graph_of threads.now.items parents.now.items) t.1.items) }
     ensures owners { IfOk result (λ t. AreOwners (graph_of threads.now.items parents.now.items) t.2.items) }
 {
@@ -78,22 +82,26 @@ pub(crate) fn tables(
 }
 
 // So many empty lists.
-fn empty_lists(alloc: Global, count: usize) -> Result<Vec<Vec<u32>>, AllocError>
-    ensures { IfOk result (λ v. lists v.items ≡ replicate count []) }
+fn empty_lists(alloc: Global, count: usize) -> Result<Vec<SmallVec<u32, 4>>, AllocError>
+    ensures { IfOk result (λ v. short_lists v.items ≡ replicate count []) }
 {
-    let mut all = Vec::new(alloc);
+    let mut all = Vec::with_capacity(alloc, count)?;
     for _ in 0..count {
-        all.push(Vec::new(alloc))?;
+        all.push(SmallVec::new(alloc))?;
     }
     Ok(all)
 }
 
 // Adds v to the list of each of its parents.
-fn add_child(children: &mut Vec<Vec<u32>>, parents: &Vec<u32>, v: u32) -> Result<(), AllocError>
+fn add_child(
+    children: &mut Vec<SmallVec<u32, 4>>,
+    parents: &Vec<u32>,
+    v: u32,
+) -> Result<(), AllocError>
     requires within { All (λ p. p < length children.old.items) parents.now.items }
     requires rising { IsStrictlyIncreasing parents.now.items }
     ensures long { OnOk result (length children.new.items ≡ length children.old.items) }
-    ensures added { OnOk result ((u : ℕ) → get_or (lists children.new.items) u [] ≡ get_or (lists children.old.items) u [] ++ cond (list_any (nat_eq u) parents.now.items) (v ∷ []) []) }
+    ensures added { OnOk result ((u : ℕ) → get_or (short_lists children.new.items) u [] ≡ get_or (short_lists children.old.items) u [] ++ cond (list_any (nat_eq u) parents.now.items) (v ∷ []) []) }
 {
     for parent in parents {
         children[*parent as usize].push(v)?;

@@ -7,6 +7,7 @@ ghost use Rattle.cost_graph.specs.View.{graph_of};
 
 use crate::build::tables;
 use priml_syntax::Path;
+use smallvec::SmallVec;
 use std::alloc::{AllocFailed, Global};
 use std::cmp::Ordering;
 use std::marker::Model;
@@ -25,7 +26,8 @@ pub struct Thread {
 pub struct Graph {
     threads: Vec<Thread>,
     parents: Vec<Vec<u32>>,
-    children: Vec<Vec<u32>>,
+    // most have one child: up to 4 take no allocation
+    children: Vec<SmallVec<u32, 4>>,
     firsts: Vec<u32>,
     owners: Vec<u32>,
 }

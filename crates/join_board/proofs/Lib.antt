@@ -1,0 +1,17 @@
+mod Laws
+mod Paths
+mod Pairs
+mod Sums
+mod Frames
+mod Hands
+mod Seen
+mod Counts
+mod Stops
+mod Keys
+mod Logs
+mod Steps
+mod Openings
+mod Ends
+mod Books
+mod Calls
+mod Gather

@@ -1,0 +1,6 @@
+use Rattle.std.proofs.Common.{rules}
+use Rattle.join_board.proofs.Steps.{asks_limit}
+use Rattle.join_board.proofs.moves.ask_limit.Goals as goal
+
+pub compare_exchange-requires : goal.compare_exchange-requires
+compare_exchange-requires c = (search rules, search rules, asks_limit c.args.top.now.key _ _ _ c.requires.table.3 c.requires.over)

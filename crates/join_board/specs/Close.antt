@@ -1,0 +1,35 @@
+-- What a closed board has.
+use Rattle.std.specs.Prelude.{◌≡◌, ℕ, ◌<◌, ◌≤◌, List, map}
+use Rattle.std.specs.List.{flat_map}
+use Rattle.trace_book.specs.Log.{Log}
+use mathlib.Core.Option.{some}
+use lib.ListN.{get_elem?}
+use Rattle.core_steps.specs.Config.{Thread}
+use Rattle.core_steps.specs.Determined.{unended}
+use Rattle.join_board.specs.Entries.{Entry}
+use Rattle.join_board.specs.Logs.{total, Each, size, Shows}
+use Rattle.join_board.specs.Rule.{KeepsLogs}
+use Rattle.join_board.specs.Handles.{knows}
+use Rattle.join_board.specs.declared.view.Sight.{Sight}
+use Rattle.join_board.specs.declared.owned.BoardSeat.{BoardSeat}
+use Rattle.join_board.specs.declared.view.About.{About}
+use Rattle.join_board.specs.declared.view.View.{View}
+
+-- the shards have all that the view has seen and found
+abbrev pub Contains : About → List Thread → List (List Entry) → View → Type 0
+Contains key c shards v = (v.own ≤ total size shards) × Each (Shows shards) v.seen × (0 < v.live.over → unended c ≡ 0) × (0 < v.stop.found_limit → key.limit < total size shards)
+
+-- the logs of all shards, in order
+abbrev pub logs_in : List (List Entry) → List Log
+logs_in = flat_map (λ (x : List Entry). map (λ (e : Entry). e.log) x)
+
+-- the logs are those of shards that read as a reached configuration, and these have all that each seat has seen
+abbrev pub Closes : About → List BoardSeat → List Log → Type 0
+Closes key seats logs = (shards : List (List Entry)) × (logs ≡ logs_in shards) × ((c : List Thread) × KeepsLogs key shards c × Each (λ (s : BoardSeat). Contains key c shards (knows s)) seats)
+
+-- the second knows all that the first does
+abbrev pub Absorbed : View → View → Type 0
+Absorbed v w = (v.own ≤ w.own) × (v.live.over ≤ w.live.over) × (v.stop.found_limit ≤ w.stop.found_limit) × ((i : ℕ) (t : Sight) → get_elem? v.seen i ≡ some t → (j : ℕ) × (get_elem? w.seen j ≡ some t))
+
+abbrev pub ClosesOne : About → View → List Log → Type 0
+ClosesOne key v logs = (shards : List (List Entry)) × (logs ≡ logs_in shards) × ((c : List Thread) × KeepsLogs key shards c × Contains key c shards v)

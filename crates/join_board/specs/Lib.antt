@@ -1,0 +1,13 @@
+pub mod Entries
+pub mod Threads
+pub mod Jobs
+pub mod Logs
+pub mod Views
+pub mod Rule
+pub mod Plays
+pub mod Finds
+pub mod Handles
+pub mod Calls
+pub mod Clauses
+pub mod Close
+pub mod Openings

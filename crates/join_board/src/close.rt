@@ -1,0 +1,89 @@
+//! The board is closed: all seats are joined, and the logs become a book.
+ghost use Rattle.std.specs.Prelude.{◌≡◌, ◌+◌, ◌<◌, ◌≤◌, ◌-◌, [], ℕ, vec_capacity, vec_len};
+ghost use mathlib.Core.Option.{some};
+ghost use lib.ListN.{get_elem?};
+ghost use Rattle.join_board.specs.Logs.{total, Each};
+ghost use Rattle.join_board.specs.Views.{left, right, both};
+ghost use Rattle.join_board.specs.Handles.{knows, IsSeatOf, Rests};
+ghost use Rattle.join_board.specs.Close.{Closes, ClosesOne, Absorbed};
+
+use crate::owned::{Board, BoardSeat};
+use crate::rule::{Cuts, Glues, Place, Top};
+use trace_book::Book;
+
+/// The second seat's view goes to the first.
+fn join(top: &Top, seat: &mut Place, other: Place)
+    requires table { (seat.old.table_id ≡ top.now.table_id) × (other.table_id ≡ top.now.table_id) × (top.now.table_id.words ≡ 1072) }
+    requires rests { (other.me.1 ≡ []) × (seat.old.me.0.hand.hand ≡ 0) × (other.me.0.hand.hand ≡ 0) × (0 < seat.old.me.0.seats) }
+    ensures { (seat.new.table_id ≡ seat.old.table_id) × (seat.new.me ≡ (both seat.old.me.0 other.me.0, seat.old.me.1)) }
+{
+    top.join_seat::<Glues>(seat, other);
+}
+
+/// All seats' views go to the kept one.
+fn gather(top: &Top, kept: &mut Place, mut seats: Vec<BoardSeat>)
+    requires table { (kept.old.table_id ≡ top.now.table_id) × (top.now.table_id.words ≡ 1072) }
+    requires rests { (kept.old.me.1 ≡ []) × (kept.old.me.0.hand.hand ≡ 0) × (0 < kept.old.me.0.seats) }
+    requires others { Each (λ s. (s.seat.table_id ≡ top.now.table_id) × Rests s) seats.items }
+    ensures table { kept.new.table_id ≡ top.now.table_id }
+    ensures rests { (kept.new.me.1 ≡ []) × (kept.new.me.0.hand.hand ≡ 0) × (kept.new.me.0.seats ≡ kept.old.me.0.seats + total (λ s. (knows s).seats) seats.items) }
+    ensures knows { Absorbed kept.old.me.0 kept.new.me.0 × Each (λ s. Absorbed (knows s) kept.new.me.0) seats.items }
+{
+    while let Some(other) = seats.pop() {
+        let BoardSeat {
+            seat,
+            steps: _,
+            uncounted: _,
+        } = other;
+        join(top, kept, seat);
+    }
+}
+
+impl Board {
+    /// The book of the board's logs, by all the board's seats, each once. Parked tasks are dropped. It takes no memory.
+    pub fn close(self, mut seats: Vec<BoardSeat>) -> Book
+        requires seats { Each (λ s. IsSeatOf self s × Rests s) seats.items }
+        requires all { (total (λ s. (knows s).seats) seats.items ≡ self.table.shared.key.opened) × (0 < vec_len seats) }
+        ensures { Closes self.table.shared.key seats.items result }
+    {
+        let Some(first) = seats.pop() else {
+            unreachable!()
+        };
+        let BoardSeat {
+            seat: mut kept,
+            steps: _,
+            uncounted: _,
+        } = first;
+        gather(&self.table.shared, &mut kept, seats);
+        self.close_one(kept)
+    }
+
+    /// A new seat takes over one of those that the seat stands for.
+    pub(crate) fn split(&self, seat: &mut BoardSeat) -> BoardSeat
+        requires seat { IsSeatOf self.now seat.old × Rests seat.old }
+        requires more { ((knows seat.old).own ≡ 0) × (1 < (knows seat.old).seats) }
+        ensures seat { IsSeatOf self.now seat.new × Rests seat.new × (knows seat.new ≡ left (knows seat.old)) }
+        ensures other { IsSeatOf self.now result × Rests result × (knows result ≡ right (knows seat.old)) }
+    {
+        BoardSeat {
+            seat: self.table.shared.split_seat::<Cuts>(&mut seat.seat),
+            steps: 0,
+            uncounted: 0,
+        }
+    }
+
+    /// The book of the logs at home, which are all.
+    fn close_one(self, seat: Place) -> Book
+        requires table { seat.table_id ≡ self.table.shared.table_id }
+        requires all { (seat.me.0.hand.hand ≡ 0) × (seat.me.0.seats ≡ self.table.shared.key.opened) }
+        ensures { ClosesOne self.table.shared.key seat.me.0 result }
+    {
+        let Board { table, mut room } = self;
+        let mut closed = table.close_with(seat);
+        for i in 0..64 {
+            room.push_reserved(closed.take(i).unwrap().into_logs());
+        }
+        closed.free();
+        Book::of_shards(room)
+    }
+}

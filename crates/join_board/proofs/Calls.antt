@@ -1,6 +1,6 @@
 -- What the calls rest on.
 use Rattle.std.proofs.Common.{◌≡◌, ℕ, zero, suc, ◌+◌, ◌-◌, ◌^◌, ◌<◌, ◌≤◌, List, [], ◌∷◌, ◌++◌, length, get_or, set, sym, refl, ap, ◌∙◌, subst, inl, inr, arith, Option, Some, None, append-nil, append_assoc, length-append, is_some, Result, Ok, Err, IfOk, cond, Bool, true, false, true≢false}
-use mathlib.Core.Option.{some, some-injective}
+use mathlib.Core.Option.{some, some-injective, some-ne-none}
 use lib.ListN.{get_elem?}
 use Rattle.atomic_table.proofs.Lists.{at_longer, at_map, at_last}
 use Rattle.join_board.specs.Entries.{Entry}
@@ -8,7 +8,7 @@ use Rattle.join_board.specs.declared.view.View.{View}
 use Rattle.join_board.specs.declared.view.Sight.{Sight}
 use Rattle.trace_book.specs.Segments.{SegmentFields}
 use Rattle.task_state.specs.declared.task.Task.{Task}
-use Rattle.join_board.specs.Logs.{size, spawned, finished, sight, sights, keys, shard_of, log_in, Missing, CanWait, IsAt, new_keys, appended, parked_on, fresh}
+use Rattle.join_board.specs.Logs.{Each, handed_out, size, spawned, finished, sight, sights, keys, shard_of, log_in, Missing, CanWait, IsAt, new_keys, appended, parked_on, fresh}
 use Rattle.join_board.specs.Views.{took_view, gave_view, back_view, ahead_view, behind_view, settled_view, quiet_view, HasSeenEnd, HasSeenSpawn}
 use Rattle.join_board.specs.Plays.{Taken, Grew, Grew_by}
 use Rattle.join_board.specs.Finds.{Appended, Parked}
@@ -24,6 +24,7 @@ use Rattle.priml_syntax.specs.Events.{spawns, ends}
 use Rattle.priml_syntax.specs.Read.{read_outcome}
 use Rattle.std.specs.Option.{option_map}
 use Rattle.core_steps.specs.Determined.{EndsWith}
+use Rattle.core_steps.specs.Steps.{Job}
 use Rattle.task_state.specs.Tasks.{OnlyLast, goes_on, key_of, read_task}
 use Rattle.priml_syntax.specs.Values.{Outcome'}
 use Rattle.std.proofs.lemmas.Option.{none-some, same_Some}
@@ -254,3 +255,8 @@ keys_parked x y i t put = let e = put.0 in let f = parked_on e t in (
 
 pub twice : (v : View) (xs ys : List Sight) → (v.seen ++ xs) ++ ys ≡ v.seen ++ (xs ++ ys)
 twice v xs ys = append_assoc v.seen xs ys
+
+-- what is handed out waited for the thread
+pub handed_wait : (job : Job) (p : List ℕ) (o : Option Outcome) (ts : List Task) → Each (CanWait job p) ts → Each (CanWait job p) (handed_out o ts)
+handed_wait job p None ts all = λ i t at. absurd (some-ne-none t (sym at))
+handed_wait job p (Some o) ts all = all

@@ -113,6 +113,7 @@ module _ (key : About) where
           λ o q. let z = sym its.1 ∙ ap (option_map read_outcome) q in (sym (ap ended log) ∙ law.has_outcome (the_job key) r.config e.log.path (read_outcome o) l.reached own.1 z, law.agrees (the_job key) r.config e.log.path (read_outcome o) l.reached own.1 z),
         ));
     apart = λ i j e f g h q. (l.placed k lt i e g).2 j f h q;
+    waits = subst (λ (a : About). Each (λ (e : Entry). Each (CanWait (the_job a) e.log.path) e.waiting) (shard_at r.shards k)) about (λ i e g j t h. (r.parked.waits k lt i e g j t h).0);
     met = λ i t g q. subst (λ (j : ℕ). (t.length ≤ length (log_in (shard_at r.shards j) t.path)) × (t.ended ≡ true → ended (log_in (shard_at r.shards j) t.path) ≡ true)) q (let h = r.seen.each id v at i t g in (h.0, h.1));
   }
 

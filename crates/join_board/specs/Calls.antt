@@ -9,7 +9,7 @@ use Rattle.task_state.specs.declared.task.Task.{Task}
 use Rattle.join_board.specs.Entries.{Entry}
 use Rattle.join_board.specs.Jobs.{the_job}
 use Rattle.join_board.specs.Threads.{ended}
-use Rattle.join_board.specs.Logs.{Missing, keys, handed_out, shard_of}
+use Rattle.join_board.specs.Logs.{CanWait, Each, Missing, keys, handed_out, shard_of}
 use Rattle.join_board.specs.Views.{HasSeenEnd}
 use Rattle.join_board.specs.declared.view.Sight.{Sight}
 use Rattle.join_board.specs.declared.view.View.{View}
@@ -40,9 +40,10 @@ HasSeen v p n b = (i : ℕ) × (t : Sight) × (get_elem? v.seen i ≡ some t) ×
 abbrev pub CanCommit : View → SegmentFields → Type 0
 CanCommit v s = IsSegmentOf (the_job v.about) s × (length s.events ≤ v.about.quantum) × (s.worker < v.about.opened) × AllJoins (HasSeenEnd v) s.events
 
--- the tasks are those that waited at the thread in the shard that was in hand, where the segment ended it
+-- the tasks are those that waited at the thread in the shard that was in hand, where the segment ended it; each is one of the job, awaits the thread, and
+-- has no pending step
 abbrev pub HandsOut : View → SegmentFields → List Task → View → Type 0
-HandsOut v s ts w = ((e : Entry) × (i : ℕ) × (get_elem? w.hand.copy i ≡ some e) × (e.log.path ≡ s.path) × (ts ≡ handed_out s.outcome e.waiting)) × (w.keys.handed ≡ v.keys.handed ++ keys ts) × (w.keys.parked ≡ v.keys.parked)
+HandsOut v s ts w = Each (CanWait (the_job v.about) s.path) ts × ((e : Entry) × (i : ℕ) × (get_elem? w.hand.copy i ≡ some e) × (e.log.path ≡ s.path) × (ts ≡ handed_out s.outcome e.waiting)) × (w.keys.handed ≡ v.keys.handed ++ keys ts) × (w.keys.parked ≡ v.keys.parked)
 
 abbrev pub IsFull : Commit → Type 0
 IsFull (Full t) = Unit {0}

@@ -6,6 +6,7 @@ pub mod Views
 pub mod Rule
 pub mod Plays
 pub mod Finds
+pub mod Rests
 pub mod Handles
 pub mod Calls
 pub mod Clauses

@@ -31,6 +31,8 @@ Told job e = (e.log.outcome ≡ None → ended e.log.events ≡ false) × ((o : 
 pub record Taken (v : View) (k : ℕ) (x : List Entry) : Type 0 where
   pub told : Each (Told (the_job v.about)) x
   pub apart : (i j : ℕ) (e f : Entry) → get_elem? x i ≡ some e → get_elem? x j ≡ some f → f.log.path ≡ e.log.path → j ≡ i
+  -- each task that waits in it can
+  pub waits : Each (λ (e : Entry). Each (CanWait (the_job v.about) e.log.path) e.waiting) x
   -- each log of the shard is at least as the seat had seen it
   pub met : (i : ℕ) (t : Sight) → get_elem? v.seen i ≡ some t → shard_of t.path ≡ k → (t.length ≤ length (log_in x t.path)) × (t.ended ≡ true → ended (log_in x t.path) ≡ true)
 

@@ -4,7 +4,7 @@ ghost use mathlib.Core.Option.{some};
 ghost use lib.ListN.{get_elem?};
 ghost use Rattle.join_board.specs.Logs.{total, Each};
 ghost use Rattle.join_board.specs.Views.{left, right, both};
-ghost use Rattle.join_board.specs.Handles.{knows, IsSeatOf, Rests};
+ghost use Rattle.join_board.specs.Handles.{knows, IsSeatOf};
 ghost use Rattle.join_board.specs.Close.{Closes, ClosesOne, Absorbed};
 
 use crate::owned::{Board, BoardSeat};
@@ -24,7 +24,7 @@ fn join(top: &Top, seat: &mut Place, other: Place)
 fn gather(top: &Top, kept: &mut Place, mut seats: Vec<BoardSeat>)
     requires table { (kept.old.table_id ≡ top.now.table_id) × (top.now.table_id.words ≡ 1072) }
     requires rests { (kept.old.me.1 ≡ []) × (kept.old.me.0.hand.hand ≡ 0) × (0 < kept.old.me.0.seats) }
-    requires others { Each (λ s. (s.seat.table_id ≡ top.now.table_id) × Rests s) seats.items }
+    requires others { Each (λ s. s.seat.table_id ≡ top.now.table_id) seats.items }
     ensures table { kept.new.table_id ≡ top.now.table_id }
     ensures rests { (kept.new.me.1 ≡ []) × (kept.new.me.0.hand.hand ≡ 0) × (kept.new.me.0.seats ≡ kept.old.me.0.seats + total (λ s. (knows s).seats) seats.items) }
     ensures knows { Absorbed kept.old.me.0 kept.new.me.0 × Each (λ s. Absorbed (knows s) kept.new.me.0) seats.items }
@@ -42,7 +42,7 @@ fn gather(top: &Top, kept: &mut Place, mut seats: Vec<BoardSeat>)
 impl Board {
     /// The book of the board's logs, by all the board's seats, each once. Parked tasks are dropped. It takes no memory.
     pub fn close(self, mut seats: Vec<BoardSeat>) -> Book
-        requires seats { Each (λ s. IsSeatOf self s × Rests s) seats.items }
+        requires seats { Each (λ s. IsSeatOf self s) seats.items }
         requires all { (total (λ s. (knows s).seats) seats.items ≡ self.table.shared.key.opened) × (0 < vec_len seats) }
         ensures { Closes self.table.shared.key seats.items result }
     {
@@ -60,10 +60,10 @@ impl Board {
 
     /// A new seat takes over one of those that the seat stands for.
     pub(crate) fn split(&self, seat: &mut BoardSeat) -> BoardSeat
-        requires seat { IsSeatOf self.now seat.old × Rests seat.old }
+        requires seat { IsSeatOf self.now seat.old }
         requires more { ((knows seat.old).own ≡ 0) × (1 < (knows seat.old).seats) }
-        ensures seat { IsSeatOf self.now seat.new × Rests seat.new × (knows seat.new ≡ left (knows seat.old)) }
-        ensures other { IsSeatOf self.now result × Rests result × (knows result ≡ right (knows seat.old)) }
+        ensures seat { IsSeatOf self.now seat.new × (knows seat.new ≡ left (knows seat.old)) }
+        ensures other { IsSeatOf self.now result × (knows result ≡ right (knows seat.old)) }
     {
         BoardSeat {
             seat: self.table.shared.split_seat::<Cuts>(&mut seat.seat),

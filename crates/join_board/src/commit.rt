@@ -5,7 +5,7 @@ ghost use Rattle.trace_book.specs.Segments.{read_segment};
 ghost use Rattle.join_board.specs.Threads.{is_spawn, spawned_last};
 ghost use Rattle.join_board.specs.Views.{gave_view, ahead_view, settled_view};
 ghost use Rattle.join_board.specs.Plays.{Grew_by};
-ghost use Rattle.join_board.specs.Handles.{knows, IsSeatOf, Rests};
+ghost use Rattle.join_board.specs.Handles.{knows, IsSeatOf};
 ghost use Rattle.join_board.specs.Calls.{CanCommit, Committed, IsFull, SameSeat};
 
 use crate::moves::{add_live, give, give_back, sub_live, take};
@@ -68,9 +68,9 @@ impl Board {
     /// Appends the segment to its thread's log. The thread makes these steps from its state after `from` steps, and the seat has seen
     /// the end of each thread that they join. After each answer but Done nothing was appended, and the segment comes back.
     pub fn commit(&self, alloc: Global, seat: &mut BoardSeat, segment: Segment) -> Commit
-        requires seat { IsSeatOf self.now seat.old × Rests seat.old }
+        requires seat { IsSeatOf self.now seat.old }
         requires segment { CanCommit (knows seat.old) (read_segment segment) }
-        ensures seat { IsSeatOf self.now seat.new × Rests seat.new × SameSeat (knows seat.old) (knows seat.new) }
+        ensures seat { IsSeatOf self.now seat.new × SameSeat (knows seat.old) (knows seat.new) }
         ensures answer { Committed (knows seat.old) (read_segment segment) result (knows seat.new) }
         ensures full { 2 ^ 59 < (knows seat.old).own + length segment.events.items → IsFull result }
     {

@@ -3,7 +3,7 @@ ghost use Rattle.std.specs.Prelude.{◌≡◌, ◌<◌, ◌%◌, [], ◌∷◌};
 ghost use Rattle.join_board.specs.Jobs.{the_job};
 ghost use Rattle.join_board.specs.Threads.{PrioOf};
 ghost use Rattle.join_board.specs.Views.{HasSeenSpawn};
-ghost use Rattle.join_board.specs.Handles.{knows, IsSeatOf, Rests};
+ghost use Rattle.join_board.specs.Handles.{knows, IsSeatOf};
 ghost use Rattle.join_board.specs.Calls.{SameSeat};
 ghost use Rattle.join_board.specs.Clauses.{Enrolled};
 
@@ -27,9 +27,9 @@ pub enum Enroll {
 impl Board {
     /// Gives the thread an entry, where it has none. The seat has seen its Spawn, and `prio` is its priority.
     pub fn enroll(&self, alloc: Global, seat: &mut BoardSeat, path: &Path, prio: u32) -> Enroll
-        requires seat { IsSeatOf self.now seat.old × Rests seat.old }
+        requires seat { IsSeatOf self.now seat.old }
         requires thread { HasSeenSpawn (knows seat.old) path.now × PrioOf (the_job (knows seat.old).about) path.now prio }
-        ensures seat { IsSeatOf self.now seat.new × Rests seat.new × SameSeat (knows seat.old) (knows seat.new) }
+        ensures seat { IsSeatOf self.now seat.new × SameSeat (knows seat.old) (knows seat.new) }
         ensures answer { Enrolled (knows seat.old) path.now result (knows seat.new) }
     {
         let shard = shard_of(path);

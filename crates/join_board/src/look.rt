@@ -1,6 +1,6 @@
 //! Outcomes are looked up.
 ghost use Rattle.std.specs.Prelude.{◌≡◌, ◌<◌, ◌%◌, [], ◌∷◌};
-ghost use Rattle.join_board.specs.Handles.{knows, IsSeatOf, Rests};
+ghost use Rattle.join_board.specs.Handles.{knows, IsSeatOf};
 ghost use Rattle.join_board.specs.Calls.{SameSeat};
 ghost use Rattle.join_board.specs.Clauses.{Looked};
 
@@ -26,8 +26,8 @@ pub enum Look {
 impl Board {
     /// Looks up how the thread ended.
     pub fn look(&self, alloc: Global, seat: &mut BoardSeat, path: &Path) -> Look
-        requires seat { IsSeatOf self.now seat.old × Rests seat.old }
-        ensures seat { IsSeatOf self.now seat.new × Rests seat.new × SameSeat (knows seat.old) (knows seat.new) }
+        requires seat { IsSeatOf self.now seat.old }
+        ensures seat { IsSeatOf self.now seat.new × SameSeat (knows seat.old) (knows seat.new) }
         ensures answer { Looked (knows seat.old) path.now result (knows seat.new) }
     {
         let shard = shard_of(path);

@@ -4,7 +4,7 @@ ghost use Rattle.core_steps.specs.Moves.{job_of};
 ghost use Rattle.join_board.specs.Jobs.{the_job};
 ghost use Rattle.join_board.specs.Logs.{Each};
 ghost use Rattle.join_board.specs.Views.{opened_view};
-ghost use Rattle.join_board.specs.Handles.{knows, IsSeatOf, Rests};
+ghost use Rattle.join_board.specs.Handles.{knows, IsSeatOf};
 
 use crate::owned::{Board, BoardSeat};
 use std::alloc::{AllocError, Global};
@@ -20,7 +20,7 @@ impl Board {
         limit: u64,
     ) -> Result<(Board, Vec<BoardSeat>), AllocError>
         requires seats { (0 < seats) × (seats ≤ 16) }
-        ensures seats { IfOk result (λ b. (vec_len b.1 ≡ seats) × Each (λ s. IsSeatOf b.0 s × Rests s × (knows s ≡ opened_view b.0.table.shared.key 1)) b.1.items) }
+        ensures seats { IfOk result (λ b. (vec_len b.1 ≡ seats) × Each (λ s. IsSeatOf b.0 s × (knows s ≡ opened_view b.0.table.shared.key 1)) b.1.items) }
         ensures about { IfOk result (λ b. (the_job b.0.table.shared.key ≡ job_of job.now) × (b.0.table.shared.key.opened ≡ seats) × (b.0.table.shared.key.quantum ≡ quantum) × (b.0.table.shared.key.limit ≡ limit)) }
     {
         let mut all = Vec::with_capacity(alloc, seats as usize)?;

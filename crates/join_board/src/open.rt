@@ -7,7 +7,7 @@ ghost use Rattle.join_board.specs.Jobs.{the_job};
 ghost use Rattle.join_board.specs.Openings.{FirstShards, IsRooted};
 ghost use Rattle.join_board.specs.Threads.{PrioOf};
 ghost use Rattle.join_board.specs.Views.{newcomer};
-ghost use Rattle.join_board.specs.Handles.{knows, IsSeatOf, Rests};
+ghost use Rattle.join_board.specs.Handles.{knows, IsSeatOf};
 
 use crate::owned::{Board, BoardSeat};
 use crate::shard::{Shard, shard_of};
@@ -90,7 +90,7 @@ impl Board {
         limit: u64,
     ) -> Result<(Board, BoardSeat), AllocError>
         requires seats { (0 < seats) × (seats ≤ 16) }
-        ensures seat { IfOk result (λ b. IsSeatOf b.0 b.1 × Rests b.1 × (knows b.1 ≡ newcomer b.0.table.shared.key)) }
+        ensures seat { IfOk result (λ b. IsSeatOf b.0 b.1 × (knows b.1 ≡ newcomer b.0.table.shared.key)) }
         ensures about { IfOk result (λ b. (the_job b.0.table.shared.key ≡ job_of job.now) × (b.0.table.shared.key.opened ≡ seats) × (b.0.table.shared.key.quantum ≡ quantum) × (b.0.table.shared.key.limit ≡ limit)) }
     {
         let room = Vec::with_capacity(alloc, 64)?;

@@ -1,4 +1,5 @@
 //! The board and its seats.
+ghost use Rattle.join_board.specs.Rests.{AtRest};
 ghost use Rattle.std.specs.Prelude.{◌≡◌, ◌≤◌, [], vec_capacity};
 
 use crate::rule::{Place, Rule};
@@ -23,4 +24,5 @@ pub struct BoardSeat {
     pub(crate) seat: Place,
     pub(crate) steps: u64,
     pub(crate) uncounted: u64,
+    ghost rests: { AtRest seat.me steps uncounted },
 }

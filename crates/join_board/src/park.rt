@@ -2,7 +2,7 @@
 ghost use Rattle.std.specs.Prelude.{◌≡◌, ◌<◌, ◌%◌, [], ◌∷◌};
 ghost use Rattle.join_board.specs.Jobs.{the_job};
 ghost use Rattle.join_board.specs.Logs.{CanWait};
-ghost use Rattle.join_board.specs.Handles.{knows, IsSeatOf, Rests};
+ghost use Rattle.join_board.specs.Handles.{knows, IsSeatOf};
 ghost use Rattle.join_board.specs.Calls.{SameSeat};
 ghost use Rattle.join_board.specs.Clauses.{Parks};
 
@@ -31,9 +31,9 @@ pub enum Park {
 impl Board {
     /// Parks a task of the job that awaits the thread and has no pending step. A task that is not parked comes back.
     pub fn park(&self, _alloc: Global, seat: &mut BoardSeat, path: &Path, task: Task) -> Park
-        requires seat { IsSeatOf self.now seat.old × Rests seat.old }
+        requires seat { IsSeatOf self.now seat.old }
         requires task { CanWait (the_job (knows seat.old).about) path.now task }
-        ensures seat { IsSeatOf self.now seat.new × Rests seat.new × SameSeat (knows seat.old) (knows seat.new) }
+        ensures seat { IsSeatOf self.now seat.new × SameSeat (knows seat.old) (knows seat.new) }
         ensures answer { Parks (knows seat.old) path.now task result (knows seat.new) }
     {
         let shard = shard_of(path);

@@ -1,6 +1,6 @@
 //! The ends of all threads, the count of steps, and the stop.
 ghost use Rattle.std.specs.Prelude.{◌≡◌, ◌<◌, ◌≤◌, ◌+◌, [], ◌∷◌, MatchBool, true};
-ghost use Rattle.join_board.specs.Handles.{knows, IsSeatOf, Rests};
+ghost use Rattle.join_board.specs.Handles.{knows, IsSeatOf};
 ghost use Rattle.join_board.specs.Calls.{SameSeat, NoWork};
 ghost use Rattle.join_board.specs.Clauses.{MayAsk, Asked, Stopped};
 
@@ -19,7 +19,6 @@ pub enum StopCause {
 impl BoardSeat {
     /// How many steps were published by this seat.
     pub fn steps(&self) -> u64
-        requires { Rests self.now }
         ensures { result ≡ (knows self.now).own }
     {
         self.steps
@@ -29,8 +28,8 @@ impl BoardSeat {
 impl Board {
     /// Whether every thread has ended. False also while a seat stands within a commit.
     pub fn all_ended(&self, seat: &mut BoardSeat) -> bool
-        requires seat { IsSeatOf self.now seat.old × Rests seat.old }
-        ensures seat { IsSeatOf self.now seat.new × Rests seat.new × SameSeat (knows seat.old) (knows seat.new) × NoWork (knows seat.old) (knows seat.new) }
+        requires seat { IsSeatOf self.now seat.old }
+        ensures seat { IsSeatOf self.now seat.new × SameSeat (knows seat.old) (knows seat.new) × NoWork (knows seat.old) (knows seat.new) }
         ensures found { MatchBool result (0 < (knows seat.new).live.over) ((knows seat.new).live.alive ≡ (knows seat.old).live.alive + 1) }
     {
         load_live(&self.table.shared, &mut seat.seat)
@@ -38,8 +37,8 @@ impl Board {
 
     /// Adds the seat's uncounted steps to the total of the board, and tells the total.
     pub fn count(&self, seat: &mut BoardSeat) -> u64
-        requires seat { IsSeatOf self.now seat.old × Rests seat.old }
-        ensures seat { IsSeatOf self.now seat.new × Rests seat.new × SameSeat (knows seat.old) (knows seat.new) }
+        requires seat { IsSeatOf self.now seat.old }
+        ensures seat { IsSeatOf self.now seat.new × SameSeat (knows seat.old) (knows seat.new) }
         ensures counted { ((knows seat.new).uncounted ≡ 0) × ((knows seat.new).own ≡ (knows seat.old).own) × ((knows seat.new).keys ≡ (knows seat.old).keys) }
         ensures greatest { (result ≡ (knows seat.new).stop.most) × ((knows seat.old).stop.most ≤ result) }
     {
@@ -51,9 +50,9 @@ impl Board {
 
     /// Asks that the run stop, for Limit only after a count above the limit. The first cause stands.
     pub fn ask_stop(&self, seat: &mut BoardSeat, why: StopCause)
-        requires seat { IsSeatOf self.now seat.old × Rests seat.old }
+        requires seat { IsSeatOf self.now seat.old }
         requires cause { MayAsk (knows seat.old) why }
-        ensures seat { IsSeatOf self.now seat.new × Rests seat.new × SameSeat (knows seat.old) (knows seat.new) × NoWork (knows seat.old) (knows seat.new) }
+        ensures seat { IsSeatOf self.now seat.new × SameSeat (knows seat.old) (knows seat.new) × NoWork (knows seat.old) (knows seat.new) }
         ensures asked { Asked why (knows seat.new) }
     {
         match why {
@@ -64,8 +63,8 @@ impl Board {
 
     /// Why the run is to stop, where a seat has asked for it.
     pub fn stopped(&self, seat: &mut BoardSeat) -> Option<StopCause>
-        requires seat { IsSeatOf self.now seat.old × Rests seat.old }
-        ensures seat { IsSeatOf self.now seat.new × Rests seat.new × SameSeat (knows seat.old) (knows seat.new) × NoWork (knows seat.old) (knows seat.new) }
+        requires seat { IsSeatOf self.now seat.old }
+        ensures seat { IsSeatOf self.now seat.new × SameSeat (knows seat.old) (knows seat.new) × NoWork (knows seat.old) (knows seat.new) }
         ensures found { Stopped (knows seat.old) result (knows seat.new) }
     {
         let found = load_stop(&self.table.shared, &mut seat.seat);

@@ -10,10 +10,10 @@ use Rattle.join_board.proofs.Gather.{front, last, total_snoc, gathered, absorbs_
 use Rattle.join_board.proofs.close.gather.Goals as goal
 
 pub join-requires-clause-table : goal.join-requires-clause-table
-join-requires-clause-table c = let inv = c.loop-other.invariant in let x = last _ _ _ _ c.in-Some.ensures.items inv.5 in (inv.0, x.0, c.requires.table.1)
+join-requires-clause-table c = let inv = c.loop-other.invariant in let x = last _ _ _ _ c.in-Some.ensures.items inv.5 in (inv.0, x, c.requires.table.1)
 
 pub join-requires-clause-rests : goal.join-requires-clause-rests
-join-requires-clause-rests c = let inv = c.loop-other.invariant in let x = last _ _ _ _ c.in-Some.ensures.items inv.5 in (x.1.0, inv.2, x.1.1, inv.3)
+join-requires-clause-rests c = let inv = c.loop-other.invariant in let x = c.in-Some.other.rests in (x.0, inv.2, x.1, inv.3)
 
 pub loop-other-preserved : goal.loop-other-preserved
 loop-other-preserved c = let inv = c.loop-other.invariant in let is = c.in-Some.ensures.items in let x = c.in-Some.other in let me = c.join.ensures.1 in let v = c.loop-other.kept.me.0 in

@@ -9,10 +9,10 @@ use Rattle.join_board.proofs.Gather.{front, last, total_snoc, contains_less}
 use Rattle.join_board.proofs.owned.Board.close.Goals as goal
 
 pub gather-requires-clause-table : goal.gather-requires-clause-table
-gather-requires-clause-table c = let x = last _ _ _ _ c.in-Some.ensures.items c.requires.seats in (x.0, c.args.self.sized.0)
+gather-requires-clause-table c = let x = last _ _ _ _ c.in-Some.ensures.items c.requires.seats in (x, c.args.self.sized.0)
 
 pub gather-requires-clause-rests : goal.gather-requires-clause-rests
-gather-requires-clause-rests c = let x = last _ _ _ _ c.in-Some.ensures.items c.requires.seats in (x.1.0, x.1.1, x.1.4)
+gather-requires-clause-rests c = let x = c.in-Some.first.rests in (x.0, x.1, x.4)
 
 pub gather-requires-clause-others : goal.gather-requires-clause-others
 gather-requires-clause-others c = front _ _ _ _ c.in-Some.ensures.items c.requires.seats

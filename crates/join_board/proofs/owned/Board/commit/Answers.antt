@@ -6,12 +6,13 @@ use Rattle.join_board.specs.Views.{took_view, settled_view, back_view, ahead_vie
 use Rattle.priml_syntax.specs.Events.{spawns, ends}
 use Rattle.trace_book.specs.Segments.{read_segment}
 use Rattle.join_board.specs.Plays.{Grew_by}
-use Rattle.join_board.specs.Logs.{sights}
+use Rattle.join_board.specs.Jobs.{the_job}
+use Rattle.join_board.specs.Logs.{CanWait, Each, sights}
 use Rattle.join_board.specs.Entries.{Entry}
 use Rattle.task_state.specs.Tasks.{TaskKey}
 use Rattle.join_board.specs.declared.view.View.{View}
 use Rattle.join_board.proofs.Sums.{at_lt}
-use Rattle.join_board.proofs.Calls.{grows, grown, spawn_is, end_is, bit_few, sees_appended, hands}
+use Rattle.join_board.proofs.Calls.{handed_wait, grows, grown, spawn_is, end_is, bit_few, sees_appended, hands}
 use Rattle.join_board.proofs.owned.Board.commit.Goals as goal
 
 pub len_at-len-requires : goal.len_at-len-requires
@@ -36,18 +37,18 @@ returns-then-len-segment-clause-answer c = let took = c.in-Some.ensures.found.0 
 
 pub settle-requires-clause-grew : goal.settle-requires-clause-grew
 settle-requires-clause-grew c = let took = c.in-Some.ensures.found.0 in let s = read_segment c.args.segment in let v = c.args.seat.now.seat.me.0 in let k = c.shard_of-shard.result in let x = c.in-Some.value in let i = c.in-Some-find.i in let at = c.in-Some-find.ensures in
-    let can = c.requires.segment in let rests = c.requires.seat.1 in let equal : c.len_at-len.result ≡ s.from = search rules in let n : ℕ = cond c.spawns_last-spawn.result 1 0 in
+    let can = c.requires.segment in let rests = c.args.seat.now.rests in let equal : c.len_at-len.result ≡ s.from = search rules in let n : ℕ = cond c.spawns_last-spawn.result 1 0 in
     let small = c.if-length-gt-MOST.false in let room = c.if-seat-length.false in let len = c.len-length.ensures in let own = rests.5 in
     subst (λ (u : View). (g : Grew_by (ahead_view u n) k c.append.new.self) × (spawns g.segment.events ≡ n) × (ends g.segment.events ≡ cond c.is_some-end.result 1 0)) (ap (λ m. m.0) (sym took))
     (grows v k x c.append.new.self i s c.in-Ok.tasks.items n (cond c.is_some-end.result 1 0) can at c.in-Ok.ensures.ok (λ e there. sym (c.len_at-len.ensures e there) ∙ equal)
     (omega (arith, small, room, len, own)) rests.3 (spawn_is v s can c.spawns_last-spawn.result (c.spawns_last-spawn.ensures ∙ ap spawned_last c.deref.ensures.value)) (end_is v s can c.is_some-end.result c.is_some-end.ensures) (bit_few c.is_some-end.result))
 
-pub returns-in-Ok-clause-seat : goal.returns-in-Ok-clause-seat
-returns-in-Ok-clause-seat c = let took = c.in-Some.ensures.found.0 in let s = read_segment c.args.segment in let v = c.args.seat.now.seat.me.0 in let k = c.shard_of-shard.result in let x = c.in-Some.value in let y = c.append.new.self in let rests = c.requires.seat.1 in
+pub invariant_of-seat-in-Ok : goal.invariant_of-seat-in-Ok
+invariant_of-seat-in-Ok c = let took = c.in-Some.ensures.found.0 in let s = read_segment c.args.segment in let v = c.args.seat.now.seat.me.0 in let k = c.shard_of-shard.result in let x = c.in-Some.value in let y = c.append.new.self in let rests = c.args.seat.now.rests in
     let me = c.settle.ensures.settled in let now : c.settle.new.seat.me.0 ≡ settled_view (took_view v k x) y = ap (λ m. m.0) me ∙ ap (λ m. settled_view m.0 y) took in
-    let more = grown x y c.in-Some-find.i s c.in-Ok.tasks.items c.in-Ok.ensures.ok in let len = c.len-length.ensures in (
-      search rules,
-      (
+    let more = grown x y c.in-Some-find.i s c.in-Ok.tasks.items c.in-Ok.ensures.ok in let len = c.len-length.ensures in
+    record {
+      rests = (
         ap (λ m. m.1) me,
         ap (λ (u : View). u.hand.hand) now,
         ap (λ (u : View). u.live.ahead) now,
@@ -56,12 +57,19 @@ returns-in-Ok-clause-seat c = let took = c.in-Some.ensures.found.0 in let s = re
         (let o = rests.5 in let q = ap (λ (u : View). u.own) now in omega (arith, o, q, more, len)),
         (let o = rests.6 in let q = ap (λ (u : View). u.uncounted) now in omega (arith, o, q, more, len)),
         (let o = rests.7 in omega (arith, o)),
-      ),
+      );
+    }
+
+pub returns-in-Ok-clause-seat : goal.returns-in-Ok-clause-seat
+returns-in-Ok-clause-seat c = let took = c.in-Some.ensures.found.0 in let s = read_segment c.args.segment in let v = c.args.seat.now.seat.me.0 in let k = c.shard_of-shard.result in let x = c.in-Some.value in let y = c.append.new.self in let rests = c.args.seat.now.rests in
+    let me = c.settle.ensures.settled in let now : c.settle.new.seat.me.0 ≡ settled_view (took_view v k x) y = ap (λ m. m.0) me ∙ ap (λ m. settled_view m.0 y) took in
+    let more = grown x y c.in-Some-find.i s c.in-Ok.tasks.items c.in-Ok.ensures.ok in let len = c.len-length.ensures in (
+      search rules,
       (ap (λ (u : View). u.about) now, ap (λ (u : View). u.seats) now, (sights x ++ sights y, ap (λ (u : View). u.seen) now ∙ append_assoc v.seen (sights x) (sights y))),
     )
 
 pub returns-in-Ok-clause-answer : goal.returns-in-Ok-clause-answer
-returns-in-Ok-clause-answer c = let took = c.in-Some.ensures.found.0 in let s = read_segment c.args.segment in let v = c.args.seat.now.seat.me.0 in let k = c.shard_of-shard.result in let x = c.in-Some.value in let y = c.append.new.self in let i = c.in-Some-find.i in let at = c.in-Some-find.ensures in let put = c.in-Ok.ensures.ok in
+returns-in-Ok-clause-answer c = let took = c.in-Some.ensures.found.0 in let told = c.in-Some.ensures.found.1 in let s = read_segment c.args.segment in let v = c.args.seat.now.seat.me.0 in let k = c.shard_of-shard.result in let x = c.in-Some.value in let y = c.append.new.self in let i = c.in-Some-find.i in let at = c.in-Some-find.ensures in let put = c.in-Ok.ensures.ok in
     let now : c.settle.new.seat.me.0 ≡ settled_view (took_view v k x) y = ap (λ m. m.0) c.settle.ensures.settled ∙ ap (λ m. settled_view m.0 y) took in let can = c.requires.segment in
     let more = grown x y i s c.in-Ok.tasks.items put in let equal : c.len_at-len.result ≡ s.from = search rules in let moved = hands x y i s c.in-Ok.tasks.items put in
     let sees = sees_appended (v.seen ++ sights x) x y i s c.in-Ok.tasks.items at put (λ e there. sym (c.len_at-len.ensures e there) ∙ equal) can.0.some in
@@ -70,6 +78,7 @@ returns-in-Ok-clause-answer c = let took = c.in-Some.ensures.found.0 in let s = 
       ap (λ (u : View). u.own) now ∙ ap (λ (n : ℕ). v.own + n) more,
       ap (λ (u : View). u.uncounted) now ∙ ap (λ (n : ℕ). v.uncounted + n) more,
       (
+        subst (Each (CanWait (the_job v.about) s.path)) (sym put.3) (handed_wait (the_job v.about) s.path s.outcome put.0.waiting (subst (λ (z : List ℕ). Each (CanWait (the_job v.about) z) put.0.waiting) (ap (λ (e : Entry). e.log.path) (sym same) ∙ at.2) (told.waits i put.0 put.1))),
         (put.0, i, ap (λ (u : View). get_elem? u.hand.copy i) now ∙ put.1, ap (λ (e : Entry). e.log.path) (sym same) ∙ at.2, put.3),
         ap (λ (u : View). u.keys.handed) now ∙ ap (λ (ks : List TaskKey). v.keys.handed ++ ks) moved.0,
         ap (λ (u : View). u.keys.parked) now ∙ (ap (λ (ks : List TaskKey). v.keys.parked ++ ks) moved.1 ∙ append-nil v.keys.parked),

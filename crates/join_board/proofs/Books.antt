@@ -20,9 +20,9 @@ pub flat_snoc : {A B : Type 0} (f : A → List B) (xs : List A) (x : A) → flat
 flat_snoc f [] x = append-nil (f x)
 flat_snoc f (y ∷ ys) x = ap (λ zs. f y ++ zs) (flat_snoc f ys x) ∙ sym (append_assoc (f y) (flat_map f ys) (f x))
 
-all_of : (P : Log → Type 0) (xs : List Log) → ((i : ℕ) (l : Log) → get_elem? xs i ≡ some l → P l) → AllByRecursion P xs
+pub all_of : {A : Type 0} (P : A → Type 0) (xs : List A) → ((i : ℕ) (a : A) → get_elem? xs i ≡ some a → P a) → AllByRecursion P xs
 all_of P [] h = tt
-all_of P (x ∷ xs) h = (h 0 x refl, all_of P xs (λ i l e. h (suc i) l e))
+all_of P (x ∷ xs) h = (h 0 x refl, all_of P xs (λ i a e. h (suc i) a e))
 
 all_append : (P : Log → Type 0) (xs ys : List Log) → AllByRecursion P xs → AllByRecursion P ys → AllByRecursion P (xs ++ ys)
 all_append P [] ys a b = b
@@ -41,7 +41,7 @@ both_apart [] ys a b h = b
 both_apart (x ∷ xs) ys a b h = (all_append (λ m. x.path ≢ m.path) xs ys a.0 (all_of (λ m. x.path ≢ m.path) ys (λ j m e. h 0 j x m refl e)), both_apart xs ys a.1 b (λ i j l m p q. h (suc i) j l m p q))
 
 -- an entry of each log
-entry_of : (x : List Entry) (i : ℕ) (l : Log) → get_elem? (map (λ (e : Entry). e.log) x) i ≡ some l → (e : Entry) × (get_elem? x i ≡ some e) × (e.log ≡ l)
+pub entry_of : (x : List Entry) (i : ℕ) (l : Log) → get_elem? (map (λ (e : Entry). e.log) x) i ≡ some l → (e : Entry) × (get_elem? x i ≡ some e) × (e.log ≡ l)
 entry_of [] i l e = absurd (some-ne-none l (sym e))
 entry_of (y ∷ ys) zero l e = (y, refl, some-injective y.log l e)
 entry_of (y ∷ ys) (suc i) l e = entry_of ys i l e

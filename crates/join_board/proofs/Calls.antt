@@ -12,7 +12,7 @@ use Rattle.join_board.specs.Logs.{Each, handed_out, size, spawned, finished, sig
 use Rattle.join_board.specs.Views.{took_view, gave_view, back_view, ahead_view, behind_view, settled_view, quiet_view, HasSeenEnd, HasSeenSpawn}
 use Rattle.join_board.specs.Plays.{Taken, Grew, Grew_by}
 use Rattle.join_board.specs.Finds.{Appended, Parked}
-use Rattle.join_board.specs.Calls.{CanCommit}
+use Rattle.join_board.specs.Calls.{CanCommit, NotListed}
 use Rattle.join_board.specs.Clauses.{EndedIn, NotEndedIn}
 use Rattle.join_board.proofs.Laws.{all_joins}
 use Rattle.join_board.proofs.Seen.{set_at, log_at}
@@ -201,6 +201,14 @@ fresh_at x y p a is = ap (λ (z : List Entry). get_elem? z (length x)) is ∙ at
 -- what the seat had seen of the thread is no more than was in hand
 pub met_at : (v : View) (k : ℕ) (x : List Entry) (p : List ℕ) (n : ℕ) → Taken v k x → shard_of p ≡ k → length (log_in x p) ≡ n → (i : ℕ) (t : Sight) → get_elem? v.seen i ≡ some t → t.path ≡ p → t.length ≤ n
 met_at v k x p n taken here is i t at same = let m = (taken.met i t at (ap (λ (z : List ℕ). shard_of z) same ∙ here)).0 in let l = ap (λ (z : List ℕ). length (log_in x z)) same in omega (arith, m, l, is)
+
+-- where the shard has no entry the thread is no root, and was not seen
+pub not_listed : (v : View) (k : ℕ) (x : List Entry) (p : List ℕ) → Taken v k x → shard_of p ≡ k → Missing x p → NotListed v p x
+not_listed v k x p taken here missing = (
+  missing,
+  (λ j l e. let h = taken.rooted j l (ap (λ (z : List ℕ). shard_of z) (sym e) ∙ here) in missing h.0 h.1.0 h.1.1 (h.1.2 ∙ sym e)),
+  λ i t at e. let h = (taken.met i t at (ap (λ (z : List ℕ). shard_of z) e ∙ here)).2 in missing h.0 h.1.0 h.1.1 (h.1.2 ∙ e),
+)
 
 pub length_missing : (x : List Entry) (p : List ℕ) → Missing x p → length (log_in x p) ≡ 0
 length_missing x p m = ap length (log_missing x p m)

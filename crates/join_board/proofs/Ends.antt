@@ -8,9 +8,10 @@ use lib.Seq.{get_or-append_seam}
 use Rattle.std.proofs.lemmas.List.{get_or_past}
 use Rattle.atomic_table.specs.Table.{State, Final, Seen}
 use Rattle.join_board.specs.Entries.{Entry}
+use Rattle.join_board.specs.Jobs.{the_job}
 use Rattle.join_board.specs.declared.view.About.{About}
 use Rattle.join_board.specs.declared.view.View.{View}
-use Rattle.join_board.specs.Logs.{total, shard_at}
+use Rattle.join_board.specs.Logs.{total, shard_at, HasRoots}
 use Rattle.join_board.specs.Rule.{has, KeepsLogs, Keeps}
 use Rattle.core_steps.specs.Config.{Thread}
 use Rattle.join_board.specs.Close.{Contains}
@@ -26,7 +27,7 @@ module _ (key : About) where
       (λ n. has_not u k n))
 
   pub closing : (id : ℕ) (v : View) (ws : List ℕ) (xs : List (Option (List Entry))) → v.hand.hand ≡ 0 → v.seats ≡ key.opened → Final (Seen (Keeps key) id v) ws xs
-      → (shards : List (List Entry)) × ((c : List Thread) × KeepsLogs key shards c × Contains key c shards v) × ((k : ℕ) → k < 64 → get_elem? xs k ≡ some (Some (shard_at shards k)))
+      → (shards : List (List Entry)) × ((c : List Thread) × KeepsLogs key shards c × Contains key c shards v × HasRoots (the_job key) shards) × ((k : ℕ) → k < 64 → get_elem? xs k ≡ some (Some (shard_at shards k)))
   closing id v ws xs idle all f = let s = f.0 in let r = f.1.0 in let at = f.1.1 in let work = r.logs.work in (
     r.shards,
     (
@@ -38,6 +39,7 @@ module _ (key : About) where
         (r.live.each id v at).1,
         (λ z. let l = (r.spent.each id v at).2 z in let t = r.spent.sum in omega (arith, l, t, work)),
       ),
+      r.seen.rooted,
     ),
     λ k l. f.4 k (Some (shard_at r.shards k)) (r.hands.home k l (sym (r.hands.hands k l) ∙ no_hand s r id v at idle all k)),
   )

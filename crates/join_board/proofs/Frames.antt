@@ -33,8 +33,8 @@ hands_frame shards words homes views id i n v w at r apart go hand = let same : 
   each = each_one (HandTrue shards) views id v w at go r.each;
 }
 
-pub seen_frame : (shards : List (List Entry)) (views : List View) (id : ℕ) (v w : View) → get_elem? views id ≡ some v → KeepsSeen shards views → (SeenTrue shards v → SeenTrue shards w) → KeepsSeen shards (set views id w)
-seen_frame shards views id v w at r go = record { each = each_one (SeenTrue shards) views id v w at go r.each }
+pub seen_frame : (key : About) (shards : List (List Entry)) (views : List View) (id : ℕ) (v w : View) → get_elem? views id ≡ some v → KeepsSeen key shards views → (SeenTrue shards v → SeenTrue shards w) → KeepsSeen key shards (set views id w)
+seen_frame key shards views id v w at r go = record { each = each_one (SeenTrue shards) views id v w at go r.each; rooted = r.rooted }
 
 pub live_frame : (alive live live' : ℕ) (views : List View) (id : ℕ) (v w : View) → get_elem? views id ≡ some v → KeepsLive alive live views → live' ≡ live
     → (LiveTrue alive v → LiveTrue alive w) → w.live.ahead ≡ v.live.ahead → w.live.behind ≡ v.live.behind → KeepsLive alive live' (set views id w)

@@ -1,17 +1,18 @@
-mod Laws
+pub mod Laws
 mod Paths
 mod Pairs
-mod Sums
+pub mod Sums
 mod Frames
 mod Hands
-mod Seen
+pub mod Seen
 mod Counts
 mod Stops
-mod Keys
-mod Logs
+pub mod Keys
+pub mod Logs
 mod Steps
 mod Openings
 mod Ends
-mod Books
-mod Calls
-mod Gather
+pub mod Books
+pub mod Readings
+pub mod Calls
+pub mod Gather

@@ -240,6 +240,12 @@ module _ (key : About) (shards : List (List Entry)) (c : List Thread) (r : Keeps
         roots = r.roots;
       }
 
+  -- an entry stays where one more comes behind it
+  pub stays_behind : (e' : Entry) (p : List ℕ) → HasEntry shards p → HasEntry (set shards k (shard_at shards k ++ e' ∷ [])) p
+  stays_behind e' p at = let y = shard_at shards k in let x = y ++ e' ∷ [] in let shards' = set shards k x in let here : shard_at shards' k ≡ x = get_or-set_same shards k x [] (let l = r.deep in omega (arith, l, lt)) in dite (ℕ_discrete (shard_of p) k)
+      (λ b. (at.0, (at.1.0, ap (λ (j : ℕ). get_elem? (shard_at shards' j) at.0) b ∙ (ap (λ (z : List Entry). get_elem? z at.0) here ∙ at_longer y (e' ∷ []) at.0 at.1.0 (subst (λ (j : ℕ). get_elem? (shard_at shards j) at.0 ≡ some at.1.0) b at.1.1)), at.1.2)))
+      (λ n. (at.0, (at.1.0, ap (λ (z : List Entry). get_elem? z at.0) (get_or-set_other shards k (shard_of p) x [] n) ∙ at.1.1, at.1.2)))
+
   pub turned_enrolled : (p : List ℕ) (a : ℕ) → shard_of p ≡ k → IsIn c p → Missing (shard_at shards k) p → PrioOf (the_job key) p a → Each (Waits key) (shard_at shards k) → Turned key shards c k (shard_at shards k) (shard_at shards k ++ fresh p a ∷ [])
   turned_enrolled p a here_is inside missing prio waits = let e' = fresh p a in let y = shard_at shards k in let x = y ++ e' ∷ [] in let shards' = set shards k x in
       let here : shard_at shards' k ≡ x = get_or-set_same shards k x [] (let l = r.deep in omega (arith, l, lt)) in
@@ -255,13 +261,7 @@ module _ (key : About) (shards : List (List Entry)) (c : List Thread) (r : Keeps
         steps = omega (arith, grew);
         alive = omega (arith, grew_spawns, grew_ends);
         over = λ z. z;
-        shows = λ t h. let pair = subst (λ (l : List Event). (t.length ≤ length l) × (t.ended ≡ true → ended l ≡ true)) (sym (log t.path)) (h.0, h.1) in let at = h.2 in (
-          pair.0,
-          pair.1,
-          dite (ℕ_discrete (shard_of t.path) k)
-              (λ b. (at.0, (at.1.0, ap (λ (j : ℕ). get_elem? (shard_at shards' j) at.0) b ∙ (ap (λ (z : List Entry). get_elem? z at.0) here ∙ at_longer y (e' ∷ []) at.0 at.1.0 (subst (λ (j : ℕ). get_elem? (shard_at shards j) at.0 ≡ some at.1.0) b at.1.1)), at.1.2)))
-              (λ n. (at.0, (at.1.0, ap (λ (z : List Entry). get_elem? z at.0) (get_or-set_other shards k (shard_of t.path) x [] n) ∙ at.1.1, at.1.2))),
-        );
+        shows = λ t h. let pair = subst (λ (l : List Event). (t.length ≤ length l) × (t.ended ≡ true → ended l ≡ true)) (sym (log t.path)) (h.0, h.1) in (pair.0, pair.1, stays_behind e' t.path h.2);
         moved = moved_snoc y e' refl;
         waits = λ n f g. ⊎_elim (λ (h : get_elem? y n ≡ some f). waits n f h) (λ (h : e' ≡ f). subst (Waits key) h (λ m u b. absurd (some-ne-none u (sym b)))) (at_snoc y e' f n g);
       }

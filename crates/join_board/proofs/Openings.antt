@@ -5,7 +5,7 @@ use mathlib.Core.Option.{some, some-injective, some-ne-none}
 use native.Mathlib.Decide.{ℕ_discrete}
 use lib.ListN.{get_elem?}
 use Rattle.atomic_table.specs.Table.{opening}
-use Rattle.atomic_table.proofs.Lists.{at_index, at_map, at_snoc}
+use Rattle.atomic_table.proofs.Lists.{at_index, at_last, at_map, at_snoc}
 use Rattle.core_steps.specs.Config.{begin}
 use Rattle.core_steps.specs.Determined.{IsIn, unended}
 use Rattle.core_steps.specs.Fields.{LocalFields, state_of}
@@ -28,12 +28,12 @@ use Rattle.join_board.specs.Jobs.{the_job}
 use Rattle.join_board.specs.Openings.{FirstShards, IsRooted}
 use Rattle.join_board.specs.declared.view.About.{About}
 use Rattle.join_board.specs.declared.view.View.{View}
-use Rattle.join_board.specs.Logs.{total, Each, log_in, shard_at, shard_of, size, fresh, weigh, keys, Missing}
+use Rattle.join_board.specs.Logs.{total, Each, HasEntry, log_in, shard_at, shard_of, size, fresh, weigh, keys, Missing}
 use Rattle.join_board.specs.Views.{newcomer}
-use Rattle.join_board.specs.Rule.{word_of, spent_word, stop_word, Placed, EntryTrue, SeatTrue, HandTrue, SeenTrue, LiveTrue, StopTrue, Waits, Keeps}
+use Rattle.join_board.specs.Rule.{word_of, spent_word, stop_word, Placed, EntryTrue, SeatTrue, HandTrue, SeenTrue, LiveTrue, StopTrue, Waits, KeepsLogs, Keeps}
 use Rattle.join_board.proofs.Sums.{at_get, at_lt, total_zero}
 use Rattle.join_board.proofs.Hands.{has_none}
-use Rattle.join_board.proofs.Logs.{enrolled_logs}
+use Rattle.join_board.proofs.Logs.{enrolled_logs, stays_behind}
 
 abbrev pub Shards : Type 0
 Shards = List (List Entry)
@@ -78,26 +78,27 @@ mod_small : (p : List ℕ) → shard_of p < 64
 mod_small p = omega arith
 
 module _ (key : About) where
-  -- the roots from the k-th on have no entry yet
+  -- the roots below the k-th have entries, and those from it on have none yet
   pub record Rooted (k : ℕ) (shards : Shards) : Type 0 where
-    pub first : FirstShards key shards
+    pub logs : KeepsLogs key shards (begin (the_job key))
+    pub idle : (j : ℕ) → j < 64 → Each (λ (e : Entry). e.waiting ≡ []) (shard_at shards j)
+    pub rooted : (j : ℕ) → j < k → HasEntry shards (j ∷ [])
     pub later : (j : ℕ) → k ≤ j → Missing (shard_at shards (shard_of (j ∷ []))) (j ∷ [])
 
   pub bare : (n : ℕ) → n ≡ 64 → length (the_job key).program.mains < 2 ^ 32 → Rooted 0 (replicate n [])
   bare n is few = let starts = (core_laws (the_job key)).starts in record {
-    first = record {
-      logs = record {
-        deep = len_replicate {A = List Entry} n [] ∙ is;
-        reached = starts.reached;
-        reads = λ p. starts.empty p ∙ sym (ap (λ (x : List Entry). log_in x p) (shard_empty n (shard_of p)));
-        placed = λ k l. subst (Placed (begin (the_job key)) k) (sym (shard_empty n k)) (λ i e at. absurd (some-ne-none e (sym at)));
-        entries = λ k l. subst (Each (EntryTrue key (begin (the_job key)))) (sym (shard_empty n k)) (none_at (EntryTrue key (begin (the_job key))));
-        work = let h = total_replicate size n [] refl in let s = starts.no_steps in omega (arith, h, s);
-        few = let u = starts.live in omega (arith, u);
-        roots = few;
-      };
-      idle = λ k l. subst (Each (λ (e : Entry). e.waiting ≡ [])) (sym (shard_empty n k)) (none_at (λ (e : Entry). e.waiting ≡ []));
+    logs = record {
+      deep = len_replicate {A = List Entry} n [] ∙ is;
+      reached = starts.reached;
+      reads = λ p. starts.empty p ∙ sym (ap (λ (x : List Entry). log_in x p) (shard_empty n (shard_of p)));
+      placed = λ k l. subst (Placed (begin (the_job key)) k) (sym (shard_empty n k)) (λ i e at. absurd (some-ne-none e (sym at)));
+      entries = λ k l. subst (Each (EntryTrue key (begin (the_job key)))) (sym (shard_empty n k)) (none_at (EntryTrue key (begin (the_job key))));
+      work = let h = total_replicate size n [] refl in let s = starts.no_steps in omega (arith, h, s);
+      few = let u = starts.live in omega (arith, u);
+      roots = few;
     };
+    idle = λ k l. subst (Each (λ (e : Entry). e.waiting ≡ [])) (sym (shard_empty n k)) (none_at (λ (e : Entry). e.waiting ≡ []));
+    rooted = λ j l. absurd (omega (arith, l));
     later = λ j l. subst (λ (x : List Entry). Missing x (j ∷ [])) (sym (shard_empty n (shard_of (j ∷ [])))) (λ i e at. absurd (some-ne-none e (sym at)));
   }
 
@@ -109,18 +110,19 @@ module _ (key : About) where
 
   -- one root more
   pub root_next : (k : ℕ) (old new : Shards) → Rooted k old → k < length (the_job key).program.mains → IsRooted (the_job key) k old new → Rooted (k + 1) new
-  root_next k old new r inside more = let s = shard_of (k ∷ []) in let y = shard_at old s in let f = fresh (k ∷ []) more.0 in let x = y ++ f ∷ [] in let logs = r.first.logs in let small : s < 64 = mod_small (k ∷ []) in
+  root_next k old new r inside more = let s = shard_of (k ∷ []) in let y = shard_at old s in let f = fresh (k ∷ []) more.0 in let x = y ++ f ∷ [] in let logs = r.logs in let small : s < 64 = mod_small (k ∷ []) in
       let here : shard_at (set old s x) s ≡ x = get_or-set_same old s x [] (let d = logs.deep in omega (arith, d, small)) in
       let there : IsIn (begin (the_job key)) (k ∷ []) = ((core_laws (the_job key)).starts.roots (k ∷ [])).1 (k, inside, refl) in
-      let idle = r.first.idle s small in let missing = r.later k (omega arith) in
+      let idle = r.idle s small in let missing = r.later k (omega arith) in
       subst (Rooted (k + 1)) (sym more.2) (record {
-        first = record {
-          logs = enrolled_logs key old (begin (the_job key)) logs s small (k ∷ []) more.0 refl there missing more.1;
-          idle = λ j l. dite (ℕ_discrete j s)
-              (λ a. subst (λ (z : ℕ). Each (λ (e : Entry). e.waiting ≡ []) (shard_at (set old s x) z)) (sym a) (subst (Each (λ (e : Entry). e.waiting ≡ [])) (sym here)
-              (λ i e at. ⊎_elim (λ (h : get_elem? y i ≡ some e). idle i e h) (λ (h : f ≡ e). ap (λ (u : Entry). u.waiting) (sym h)) (at_snoc y f e i at))))
-              (λ n. subst (Each (λ (e : Entry). e.waiting ≡ [])) (sym (get_or-set_other old s j x [] n)) (r.first.idle j l));
-        };
+        logs = enrolled_logs key old (begin (the_job key)) logs s small (k ∷ []) more.0 refl there missing more.1;
+        idle = λ j l. dite (ℕ_discrete j s)
+            (λ a. subst (λ (z : ℕ). Each (λ (e : Entry). e.waiting ≡ []) (shard_at (set old s x) z)) (sym a) (subst (Each (λ (e : Entry). e.waiting ≡ [])) (sym here)
+            (λ i e at. ⊎_elim (λ (h : get_elem? y i ≡ some e). idle i e h) (λ (h : f ≡ e). ap (λ (u : Entry). u.waiting) (sym h)) (at_snoc y f e i at))))
+            (λ n. subst (Each (λ (e : Entry). e.waiting ≡ [])) (sym (get_or-set_other old s j x [] n)) (r.idle j l));
+        rooted = λ j l. dite (ℕ_discrete j k)
+            (λ a. subst (λ (z : ℕ). HasEntry (set old s x) (z ∷ [])) (sym a) (length y, (f, ap (λ (z : List Entry). get_elem? z (length y)) here ∙ at_last y f (length y) refl, refl)))
+            (λ n. stays_behind key old (begin (the_job key)) logs s small f (j ∷ []) (r.rooted j (omega (arith, l, n))));
         later = λ j l. let q = shard_of (j ∷ []) in dite (ℕ_discrete q s)
             (λ a. subst (λ (z : List Entry). Missing z (j ∷ [])) (sym (ap (shard_at (set old s x)) a ∙ here))
             (λ i e at same. ⊎_elim (λ (h : get_elem? y i ≡ some e). r.later j (omega (arith, l)) i e (ap (λ (z : ℕ). get_elem? (shard_at old z) i) a ∙ h) same)
@@ -153,7 +155,7 @@ module _ (key : About) where
         home = λ k l _. at_map (λ (y : Option (List Entry)). some y) (map (λ (y : List Entry). Some y) shards) k (Some (shard_at shards k)) (at_map (λ (y : List Entry). Some y) shards k (shard_at shards k) (at_get shards k [] (let d = f.logs.deep in omega (arith, d, l))));
         each = one_view (HandTrue shards) v (λ k e. absurd (omega (arith, e)));
       };
-      seen = record { each = one_view (SeenTrue shards) v (λ i t e. absurd (some-ne-none t (sym e))) };
+      seen = record { each = one_view (SeenTrue shards) v (λ i t e. absurd (some-ne-none t (sym e))); rooted = f.rooted };
       live = record { count = (let w = word_live in let u = starts.live in omega (arith, w, u, all)); each = one_view (LiveTrue (unended (begin (the_job key)))) v (omega arith, λ z. absurd (omega (arith, z))) };
       spent = record {
         sum = let w = word_zero spent_word (omega arith) in let s = starts.no_steps in omega (arith, w, s);

@@ -1,5 +1,5 @@
 -- Logs in shards, and what a seat has seen of them.
-use Rattle.std.proofs.Common.{◌≡◌, ◌≢◌, ℕ, zero, suc, ◌≤◌, List, [], ◌∷◌, ◌++◌, length, set, sym, refl, ap, ◌∙◌, subst, ⊎_elim, arith, true, cond}
+use Rattle.std.proofs.Common.{◌≡◌, ◌≢◌, ℕ, zero, suc, ◌≤◌, List, [], ◌∷◌, ◌++◌, length, set, sym, refl, ap, ◌∙◌, subst, ⊎_elim, arith, true, false, true≢false, cond}
 use mathlib.Core.Option.{some, some-injective, some-ne-none}
 use lib.ListN.{get_elem?}
 use Rattle.priml_syntax.specs.Events.{AllJoins}
@@ -11,8 +11,9 @@ use Rattle.join_board.specs.Threads.{ended}
 use Rattle.priml_syntax.specs.declared.event.Event.{Event}
 use Rattle.join_board.specs.Entries.{Entry}
 use Rattle.join_board.specs.declared.view.Sight.{Sight}
+use Rattle.join_board.specs.declared.view.About.{About}
 use Rattle.join_board.specs.declared.view.View.{View}
-use Rattle.join_board.specs.Logs.{Each, log_in, log_of, shard_at, shard_of, sight, sights, Shows}
+use Rattle.join_board.specs.Logs.{Each, HasEntry, log_in, log_of, shard_at, shard_of, sight, sights, Shows}
 use Rattle.join_board.specs.Views.{gave_view, left, right, both, spent_view, HasSeenEnd}
 use Rattle.join_board.specs.Rule.{Placed, SeenTrue, KeepsSeen}
 use Rattle.join_board.proofs.Laws.{all_joins}
@@ -61,21 +62,27 @@ both_seen shards xs ys a b i t e = ⊎_elim (λ (h : get_elem? xs i ≡ some t).
 abbrev pub ShowsMore : List (List Entry) → List (List Entry) → Type 0
 ShowsMore a b = (t : Sight) → Shows a t → Shows b t
 
-pub seen_gave : (shards : List (List Entry)) (c : List Thread) (views : List View) (id k : ℕ) (v : View) (x : List Entry) → KeepsSeen shards views → get_elem? views id ≡ some v → ShowsMore shards (set shards k x) → shard_at (set shards k x) k ≡ x
-    → Placed c k (shard_at (set shards k x) k) → KeepsSeen (set shards k x) (set views id (gave_view v x))
-seen_gave shards c views id k v x r at more here placed = record {
+-- an entry stays an entry
+pub listed_more : (a b : List (List Entry)) (p : List ℕ) → ShowsMore a b → HasEntry a p → HasEntry b p
+listed_more a b p more h = let t : Sight = record { path = p; length = 0; ended = false } in (more t (omega arith, (λ e. absurd (true≢false (sym e))), h)).2
+
+pub seen_gave : (key : About) (shards : List (List Entry)) (c : List Thread) (views : List View) (id k : ℕ) (v : View) (x : List Entry) → KeepsSeen key shards views → get_elem? views id ≡ some v → ShowsMore shards (set shards k x) → shard_at (set shards k x) k ≡ x
+    → Placed c k (shard_at (set shards k x) k) → KeepsSeen key (set shards k x) (set views id (gave_view v x))
+seen_gave key shards c views id k v x r at more here placed = record {
   each = each_set (λ _ u. SeenTrue (set shards k x) u) views id (gave_view v x)
       (both_seen (set shards k x) v.seen (sights x) (λ i t e. more t (r.each id v at i t e)) (subst (λ (y : List Entry). Each (Shows (set shards k x)) (sights y)) here (shows_mine (set shards k x) c k placed)))
       (λ j u _ e i t g. more t (r.each j u e i t g));
+  rooted = λ j l. listed_more shards (set shards k x) (j ∷ []) more (r.rooted j l);
 }
 
-pub seen_split : (shards : List (List Entry)) (views : List View) (id : ℕ) (v : View) → KeepsSeen shards views → get_elem? views id ≡ some v → KeepsSeen shards (set views id (left v) ++ right v ∷ [])
-seen_split shards views id v r at = record { each = each_split (SeenTrue shards) views id (left v) (right v) (r.each id v at) (λ i t e. absurd (some-ne-none t (sym e))) r.each }
+pub seen_split : (key : About) (shards : List (List Entry)) (views : List View) (id : ℕ) (v : View) → KeepsSeen key shards views → get_elem? views id ≡ some v → KeepsSeen key shards (set views id (left v) ++ right v ∷ [])
+seen_split key shards views id v r at = record { each = each_split (SeenTrue shards) views id (left v) (right v) (r.each id v at) (λ i t e. absurd (some-ne-none t (sym e))) r.each; rooted = r.rooted }
 
-pub seen_join : (shards : List (List Entry)) (views : List View) (id other : ℕ) (v w : View) → KeepsSeen shards views → get_elem? views id ≡ some v → get_elem? views other ≡ some w
-    → KeepsSeen shards (set (set views id (both v w)) other spent_view)
-seen_join shards views id other v w r at there = record {
+pub seen_join : (key : About) (shards : List (List Entry)) (views : List View) (id other : ℕ) (v w : View) → KeepsSeen key shards views → get_elem? views id ≡ some v → get_elem? views other ≡ some w
+    → KeepsSeen key shards (set (set views id (both v w)) other spent_view)
+seen_join key shards views id other v w r at there = record {
   each = each_join (SeenTrue shards) views id other (both v w) spent_view (both_seen shards v.seen w.seen (r.each id v at) (r.each other w there)) (λ i t e. absurd (some-ne-none t (sym e))) r.each;
+  rooted = r.rooted;
 }
 
 -- an end that the seat has seen is an end

@@ -21,7 +21,7 @@ use Rattle.join_board.specs.declared.view.View.{View}
 use Rattle.join_board.specs.declared.view.Hand.{Hand}
 use Rattle.join_board.specs.declared.view.Live.{Live}
 use Rattle.join_board.specs.declared.view.Keys.{Keys}
-use Rattle.join_board.specs.Logs.{Each, log_in, shard_at, size, spawned, finished, Shows, appended, fresh, parked_on, Missing, CanWait}
+use Rattle.join_board.specs.Logs.{Each, log_in, shard_at, size, spawned, finished, Shows, appended, fresh, parked_on, IsListed, Missing, CanWait}
 use Rattle.join_board.specs.Views.{left, right, both, spent_view, took_view, missed_view, gave_view, ahead_view, added_view, subtracted_view, alive_view, over_view, counted_view, asked_limit_view, asked_memory_view, unset_view, found_limit_view, found_memory_view}
 use Rattle.join_board.specs.Rule.{word_of, KeepsLive, KeepsSpent, Keeps}
 use Rattle.join_board.specs.Plays.{Told, Taken, took, gave, Grew, Grew_by, Enrolled_by, Parked_by, added, subtracted, dropped, looked, counted, asked_limit, asked_memory, found_stop}
@@ -86,7 +86,7 @@ module _ (key : About) where
     logs = r.logs;
     seats = seats_frame key (steps_of r.config) s.views id v w at r.seats (λ h. h) refl refl;
     hands = hands_took r.shards s.words s.homes s.views id k v r.hands lt idle share at free;
-    seen = seen_frame r.shards s.views id v w at r.seen (λ h. both_seen r.shards v.seen _ h (shows_mine r.shards r.config k (r.logs.placed k lt)));
+    seen = seen_frame key r.shards s.views id v w at r.seen (λ h. both_seen r.shards v.seen _ h (shows_mine r.shards r.config k (r.logs.placed k lt)));
     live = live_frame (unended r.config) _ _ s.views id v w at r.live (get_or-set_other s.words (word_of k) 0 1 0 (λ e. omega (arith, e))) (λ h. h) refl refl;
     spent = spent_frame key (steps_of r.config) _ _ _ _ s.views id v w at r.spent (get_or-set_other s.words (word_of k) 1040 1 0 (λ e. omega (arith, e, lt))) (get_or-set_other s.words (word_of k) 1056 1 0 (λ e. omega (arith, e, lt))) refl refl;
     parked = parked_frame key r.shards s.views id v w at r.parked refl refl;
@@ -99,7 +99,7 @@ module _ (key : About) where
     logs = r.logs;
     seats = seats_frame key (steps_of r.config) s.views id v w at r.seats (λ h. h) refl refl;
     hands = hands_missed r.shards s.words s.homes s.views id k v r.hands lt at held;
-    seen = seen_frame r.shards s.views id v w at r.seen (λ h. h);
+    seen = seen_frame key r.shards s.views id v w at r.seen (λ h. h);
     live = live_frame (unended r.config) _ _ s.views id v w at r.live (get_or-set_other s.words (word_of k) 0 1 0 (λ e. omega (arith, e))) (λ h. h) refl refl;
     spent = spent_frame key (steps_of r.config) _ _ _ _ s.views id v w at r.spent (get_or-set_other s.words (word_of k) 1040 1 0 (λ e. omega (arith, e, lt))) (get_or-set_other s.words (word_of k) 1056 1 0 (λ e. omega (arith, e, lt))) refl refl;
     parked = parked_frame key r.shards s.views id v w at r.parked refl refl;
@@ -114,7 +114,8 @@ module _ (key : About) where
         ));
     apart = λ i j e f g h q. (l.placed k lt i e g).2 j f h q;
     waits = subst (λ (a : About). Each (λ (e : Entry). Each (CanWait (the_job a) e.log.path) e.waiting) (shard_at r.shards k)) about (λ i e g j t h. (r.parked.waits k lt i e g j t h).0);
-    met = λ i t g q. subst (λ (j : ℕ). (t.length ≤ length (log_in (shard_at r.shards j) t.path)) × (t.ended ≡ true → ended (log_in (shard_at r.shards j) t.path) ≡ true)) q (let h = r.seen.each id v at i t g in (h.0, h.1));
+    met = λ i t g q. subst (λ (j : ℕ). (t.length ≤ length (log_in (shard_at r.shards j) t.path)) × (t.ended ≡ true → ended (log_in (shard_at r.shards j) t.path) ≡ true) × IsListed (shard_at r.shards j) t.path) q (r.seen.each id v at i t g);
+    rooted = λ j l q. subst (λ (n : ℕ). IsListed (shard_at r.shards n) (j ∷ [])) q (r.seen.rooted j (subst (λ (a : About). j < length (the_job a).program.mains) (sym about) l));
   }
 
   pub takes_shard : (id k : ℕ) (v : View) → k < 64 → v.hand.hand ≡ 0 → 0 < v.seats → Allows (Keeps key) 64 id (v, []) (word_of k) (λ _. 1) (took (step 64 (word_of k) 1 0 none) (v, []))
@@ -142,7 +143,7 @@ module _ (key : About) where
     logs = t.logs;
     seats = seats_gave key (steps_of r.config) (steps_of t.config) s.views id v x r.seats at t.steps room;
     hands = hands_gave r.shards s.words s.homes s.views id k v x r.hands lt r.logs.deep deep hand at;
-    seen = seen_gave r.shards t.config s.views id k v x r.seen at t.shows (get_or-set_same r.shards k x [] (let l = r.logs.deep in omega (arith, l, lt))) (t.logs.placed k lt);
+    seen = seen_gave key r.shards t.config s.views id k v x r.seen at t.shows (get_or-set_same r.shards k x [] (let l = r.logs.deep in omega (arith, l, lt))) (t.logs.placed k lt);
     live = live_gave (unended r.config) (unended t.config) _ _ s.views id v x r.live at (get_or-set_other s.words (word_of k) 0 0 0 (λ e. omega (arith, e))) t.alive t.over ahead busy;
     spent = spent_gave key (steps_of r.config) (steps_of t.config) _ _ _ _ s.views id v x r.spent at (get_or-set_other s.words (word_of k) 1040 0 0 (λ e. omega (arith, e, lt))) (get_or-set_other s.words (word_of k) 1056 0 0 (λ e. omega (arith, e, lt))) t.steps;
     parked = parked_gave key r.shards s.views id k v x r.parked at r.logs.deep lt held (subst (λ (z : List Entry). Moved z x) held t.moved) t.waits;
@@ -188,7 +189,7 @@ module _ (key : About) where
     logs = r.logs;
     seats = seats_frame key (steps_of r.config) s.views id v w at r.seats (λ h. ((λ z. about ∙ h.0 (omega (arith, z, seats))), subst (λ (q : ℕ × ℕ). q.0 ≤ q.1 * 2 ^ 59) (λ i. (sym own i, sym seats i)) h.1)) own seats;
     hands = hands_frame r.shards s.words s.homes s.views id 0 n v w at r.hands (λ k l e. omega (arith, e)) (λ h k e. let o = h k (ap (λ (z : Hand). z.hand) (sym hand) ∙ e) in (o.0, ap (λ (z : Hand). z.copy) hand ∙ o.1, (let z = o.2 in omega (arith, z, seats)))) (ap (λ (z : Hand). z.hand) hand);
-    seen = seen_frame r.shards s.views id v w at r.seen (subst (λ (z : List Sight). Each (Shows r.shards) z) (sym seen));
+    seen = seen_frame key r.shards s.views id v w at r.seen (subst (λ (z : List Sight). Each (Shows r.shards) z) (sym seen));
     live = subst (λ (z : ℕ). KeepsLive (unended r.config) z (set s.views id w)) (sym (get_or-set_same s.words 0 n 0 (let l = r.hands.wide in omega (arith, l)))) live;
     spent = spent_frame key (steps_of r.config) _ _ _ _ s.views id v w at r.spent (get_or-set_other s.words 0 1040 n 0 (λ e. omega (arith, e))) (get_or-set_other s.words 0 1056 n 0 (λ e. omega (arith, e))) uncounted stop;
     parked = parked_frame key r.shards s.views id v w at r.parked (ap (λ (z : Keys). z.parked) keys) (ap (λ (z : Keys). z.handed) keys);
@@ -222,7 +223,7 @@ module _ (key : About) where
     logs = r.logs;
     seats = seats_frame key (steps_of r.config) s.views id v w at r.seats (λ h. ((λ z. about ∙ h.0 (omega (arith, z, seats))), subst (λ (q : ℕ × ℕ). q.0 ≤ q.1 * 2 ^ 59) (λ j. (sym own j, sym seats j)) h.1)) own seats;
     hands = hands_frame r.shards s.words s.homes s.views id i n v w at r.hands (λ k l e. omega (arith, e, l, far)) (λ h k e. let o = h k (ap (λ (z : Hand). z.hand) (sym hand) ∙ e) in (o.0, ap (λ (z : Hand). z.copy) hand ∙ o.1, (let z = o.2 in omega (arith, z, seats)))) (ap (λ (z : Hand). z.hand) hand);
-    seen = seen_frame r.shards s.views id v w at r.seen (subst (λ (z : List Sight). Each (Shows r.shards) z) (sym seen));
+    seen = seen_frame key r.shards s.views id v w at r.seen (subst (λ (z : List Sight). Each (Shows r.shards) z) (sym seen));
     live = live_frame (unended r.config) _ _ s.views id v w at r.live (get_or-set_other s.words i 0 n 0 (λ e. omega (arith, e, far))) (λ h. subst (λ (q : ℕ × Live). (q.1.ahead + q.1.behind ≤ q.0) × (0 < q.1.over → unended r.config ≡ 0)) (λ j. (sym seats j, sym live j)) h)
         (ap (λ (z : Live). z.ahead) live) (ap (λ (z : Live). z.behind) live);
     spent = spent;
@@ -303,7 +304,7 @@ module _ (key : About) where
     logs = r.logs;
     seats = seats_split key (steps_of r.config) s.views id v r.seats at bare share;
     hands = hands_split r.shards s.words s.homes s.views id v r.hands at idle;
-    seen = seen_split r.shards s.views id v r.seen at;
+    seen = seen_split key r.shards s.views id v r.seen at;
     live = live_split (unended r.config) _ s.views id v r.live at ahead behind;
     spent = spent_split key (steps_of r.config) _ _ s.views id v r.spent at;
     parked = parked_split key r.shards s.views id v r.parked at;
@@ -316,7 +317,7 @@ module _ (key : About) where
     logs = r.logs;
     seats = seats_join key (steps_of r.config) s.views id other v w r.seats at was there share;
     hands = hands_join r.shards s.words s.homes s.views id other v w r.hands at apart there idle rests;
-    seen = seen_join r.shards s.views id other v w r.seen at was;
+    seen = seen_join key r.shards s.views id other v w r.seen at was;
     live = live_join (unended r.config) _ s.views id other v w r.live at was there;
     spent = spent_join key (steps_of r.config) _ _ s.views id other v w r.spent at was there;
     parked = parked_join key r.shards s.views id other v w r.parked at there;

@@ -1,5 +1,5 @@
 -- The clauses of the calls.
-use Rattle.std.specs.Prelude.{◌≡◌, ◌≢◌, ℕ, ◌+◌, ◌<◌, ◌≤◌, ◌^◌, ◌⊎◌, List, ◌++◌, length, Bool}
+use Rattle.std.specs.Prelude.{◌≡◌, ◌≢◌, ℕ, ◌+◌, ◌<◌, ◌≤◌, ◌^◌, ◌⊎◌, List, [], ◌∷◌, ◌++◌, length, Bool}
 use mathlib.Core.Option.{some}
 use lib.ListN.{get_elem?}
 use Rattle.priml_syntax.specs.Events.{AllJoins}
@@ -34,6 +34,10 @@ HasTaken v p w = (w.hand.taken ≡ v.hand.taken + 1) × (w.hand.last ≡ shard_o
 abbrev pub LengthIn : List Entry → List ℕ → ℕ → Type 0
 LengthIn x p n = ((e : Entry) × (i : ℕ) × (get_elem? x i ≡ some e) × (e.log.path ≡ p) × (n ≡ length e.log.events)) ⊎ (Missing x p × (n ≡ 0))
 
+-- the shard that was in hand has no entry of the thread, which is no root, and the seat has seen no log of it
+abbrev pub NotListed : View → List ℕ → List Entry → Type 0
+NotListed v p x = Missing x p × ((k : ℕ) → k < length (the_job v.about).program.mains → p ≢ k ∷ []) × ((i : ℕ) (t : Sight) → get_elem? v.seen i ≡ some t → t.path ≢ p)
+
 abbrev pub HasSeen : View → List ℕ → ℕ → Bool → Type 0
 HasSeen v p n b = (i : ℕ) × (t : Sight) × (get_elem? v.seen i ≡ some t) × (t.path ≡ p) × (t.length ≡ n) × (t.ended ≡ b)
 
@@ -53,5 +57,5 @@ abbrev pub Committed : View → SegmentFields → Commit → View → Type 0
 Committed v s (Done ts) w = HasTaken v s.path w × (w.own ≡ v.own + length s.events) × (w.uncounted ≡ v.uncounted + length s.events) × HandsOut v s ts.items w × HasSeen w s.path (s.from + length s.events) (ended s.events)
 Committed v s (Full t) w = (read_segment t ≡ s) × (w ≡ v) × (2 ^ 59 < v.own + length s.events)
 Committed v s (Busy t) w = (read_segment t ≡ s) × WasBusy v s.path w × NoWork v w
-Committed v s (Stale t n) w = (read_segment t ≡ s) × HasTaken v s.path w × NoWork v w × LengthIn w.hand.copy s.path n × (n ≢ s.from ⊎ Missing w.hand.copy s.path)
+Committed v s (Stale t n) w = (read_segment t ≡ s) × HasTaken v s.path w × NoWork v w × LengthIn w.hand.copy s.path n × (n ≢ s.from ⊎ NotListed v s.path w.hand.copy)
 Committed v s (OutOfMemory t) w = (read_segment t ≡ s) × NoWork v w

@@ -9,9 +9,8 @@ use Rattle.task_state.specs.Tasks.{key_of, read_task}
 use Rattle.join_board.specs.Entries.{Entry}
 use Rattle.join_board.specs.Jobs.{the_job}
 use Rattle.join_board.specs.Threads.{ended}
-use Rattle.join_board.specs.Logs.{Missing}
 use Rattle.join_board.specs.Views.{HasSeenEnd}
-use Rattle.join_board.specs.Calls.{NoWork, WasBusy, HasTaken, LengthIn, HasSeen}
+use Rattle.join_board.specs.Calls.{NoWork, WasBusy, HasTaken, LengthIn, NotListed, HasSeen}
 use Rattle.join_board.specs.declared.view.Sight.{Sight}
 use Rattle.join_board.specs.declared.view.View.{View}
 use Rattle.join_board.specs.declared.enroll.Enroll as enroll
@@ -37,7 +36,7 @@ NotEndedIn x p = (i : ℕ) (e : Entry) → get_elem? x i ≡ some e → e.log.pa
 
 abbrev pub Looked : View → List ℕ → look.Look → View → Type 0
 Looked v p (looked.Ended o) w = HasTaken v p w × NoWork v w × EndsWith (the_job v.about) p (read_outcome o) × EndedIn w.hand.copy p × HasSeenEnd w p
-Looked v p (looked.NotYet n) w = HasTaken v p w × NoWork v w × LengthIn w.hand.copy p n × NotEndedIn w.hand.copy p × ((i : ℕ) (t : Sight) → get_elem? v.seen i ≡ some t → t.path ≡ p → t.length ≤ n) × (Missing w.hand.copy p ⊎ HasSeen w p n false)
+Looked v p (looked.NotYet n) w = HasTaken v p w × NoWork v w × LengthIn w.hand.copy p n × NotEndedIn w.hand.copy p × ((i : ℕ) (t : Sight) → get_elem? v.seen i ≡ some t → t.path ≡ p → t.length ≤ n) × (NotListed v p w.hand.copy ⊎ HasSeen w p n false)
 Looked v p looked.Busy w = WasBusy v p w × NoWork v w
 Looked v p looked.OutOfMemory w = NoWork v w
 
@@ -45,7 +44,7 @@ abbrev pub Parks : View → List ℕ → Task → park.Park → View → Type 0
 Parks v p t parked.Parked w = HasTaken v p w × (w.own ≡ v.own) × (w.uncounted ≡ v.uncounted) × (w.keys.parked ≡ v.keys.parked ++ key_of (read_task t) ∷ []) × (w.keys.handed ≡ v.keys.handed)
 Parks v p t (parked.Ended u) w = (u ≡ t) × HasTaken v p w × NoWork v w × EndedIn w.hand.copy p
 Parks v p t (parked.Busy u) w = (u ≡ t) × WasBusy v p w × NoWork v w
-Parks v p t (parked.NoEntry u) w = (u ≡ t) × HasTaken v p w × NoWork v w × Missing w.hand.copy p
+Parks v p t (parked.NoEntry u) w = (u ≡ t) × HasTaken v p w × NoWork v w × NotListed v p w.hand.copy
 Parks v p t (parked.OutOfMemory u) w = (u ≡ t) × NoWork v w
 
 -- Limit only after a count above the limit

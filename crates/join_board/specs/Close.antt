@@ -4,10 +4,12 @@ use Rattle.std.specs.List.{flat_map}
 use Rattle.trace_book.specs.Log.{Log}
 use mathlib.Core.Option.{some}
 use lib.ListN.{get_elem?}
-use Rattle.core_steps.specs.Config.{Thread}
+use Rattle.core_steps.specs.Config.{Thread, IsFinished}
 use Rattle.core_steps.specs.Determined.{unended}
+use Rattle.task_state.specs.Books.{ReadAs}
 use Rattle.join_board.specs.Entries.{Entry}
-use Rattle.join_board.specs.Logs.{total, Each, size, Shows}
+use Rattle.join_board.specs.Jobs.{the_job}
+use Rattle.join_board.specs.Logs.{total, Each, size, HasRoots, Shows}
 use Rattle.join_board.specs.Rule.{KeepsLogs}
 use Rattle.join_board.specs.Handles.{knows}
 use Rattle.join_board.specs.declared.view.Sight.{Sight}
@@ -23,13 +25,14 @@ Contains key c shards v = (v.own ≤ total size shards) × Each (Shows shards) v
 abbrev pub logs_in : List (List Entry) → List Log
 logs_in = flat_map (λ (x : List Entry). map (λ (e : Entry). e.log) x)
 
--- the logs are those of shards that read as a reached configuration, and these have all that each seat has seen
+-- the logs are those of shards that read as a reached configuration, in which each root has an entry, and these have all that each seat has seen; where every
+-- thread has ended the logs are those of the threads of a finished configuration
 abbrev pub Closes : About → List BoardSeat → List Log → Type 0
-Closes key seats logs = (shards : List (List Entry)) × (logs ≡ logs_in shards) × ((c : List Thread) × KeepsLogs key shards c × Each (λ (s : BoardSeat). Contains key c shards (knows s)) seats)
+Closes key seats logs = (shards : List (List Entry)) × (logs ≡ logs_in shards) × ((c : List Thread) × KeepsLogs key shards c × Each (λ (s : BoardSeat). Contains key c shards (knows s)) seats × HasRoots (the_job key) shards × (unended c ≡ 0 → IsFinished c × ReadAs logs c))
 
 -- the second knows all that the first does
 abbrev pub Absorbed : View → View → Type 0
 Absorbed v w = (v.own ≤ w.own) × (v.live.over ≤ w.live.over) × (v.stop.found_limit ≤ w.stop.found_limit) × ((i : ℕ) (t : Sight) → get_elem? v.seen i ≡ some t → (j : ℕ) × (get_elem? w.seen j ≡ some t))
 
 abbrev pub ClosesOne : About → View → List Log → Type 0
-ClosesOne key v logs = (shards : List (List Entry)) × (logs ≡ logs_in shards) × ((c : List Thread) × KeepsLogs key shards c × Contains key c shards v)
+ClosesOne key v logs = (shards : List (List Entry)) × (logs ≡ logs_in shards) × ((c : List Thread) × KeepsLogs key shards c × Contains key c shards v × HasRoots (the_job key) shards)

@@ -61,8 +61,15 @@ sights x = map sight x
 abbrev pub IsAt : List Entry → List ℕ → ℕ → Type 0
 IsAt x p i = (e : Entry) × (get_elem? x i ≡ some e) × (e.log.path ≡ p)
 
+abbrev pub IsListed : List Entry → List ℕ → Type 0
+IsListed x p = (i : ℕ) × IsAt x p i
+
 abbrev pub HasEntry : List (List Entry) → List ℕ → Type 0
-HasEntry shards p = (i : ℕ) × IsAt (shard_at shards (shard_of p)) p i
+HasEntry shards p = IsListed (shard_at shards (shard_of p)) p
+
+-- each root of the job has an entry
+abbrev pub HasRoots : Job → List (List Entry) → Type 0
+HasRoots job shards = (k : ℕ) → k < length job.program.mains → HasEntry shards (k ∷ [])
 
 -- what was seen of a log: it has an entry, and is as long, and has ended where it had
 abbrev pub Shows : List (List Entry) → Sight → Type 0

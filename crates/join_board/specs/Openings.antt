@@ -5,13 +5,14 @@ use Rattle.core_steps.specs.Steps.{Job}
 use Rattle.join_board.specs.Entries.{Entry}
 use Rattle.join_board.specs.Jobs.{the_job}
 use Rattle.join_board.specs.Threads.{PrioOf}
-use Rattle.join_board.specs.Logs.{Each, fresh, shard_at, shard_of}
+use Rattle.join_board.specs.Logs.{Each, HasRoots, fresh, shard_at, shard_of}
 use Rattle.join_board.specs.Rule.{KeepsLogs}
 use Rattle.join_board.specs.declared.view.About.{About}
 
--- the shards read as the configuration at the start, and no task waits
+-- the shards read as the configuration at the start, each root has an entry, and no task waits
 pub record FirstShards (key : About) (shards : List (List Entry)) : Type 0 where
   pub logs : KeepsLogs key shards (begin (the_job key))
+  pub rooted : HasRoots (the_job key) shards
   pub idle : (k : ℕ) → k < 64 → Each (λ (e : Entry). e.waiting ≡ []) (shard_at shards k)
 
 -- the k-th root got an entry at the end of its shard

@@ -15,7 +15,7 @@ use Rattle.join_board.specs.Entries.{Entry}
 use Rattle.join_board.specs.Jobs.{the_job}
 use Rattle.join_board.specs.Rule.{word_of}
 use Rattle.join_board.specs.Threads.{PrioOf, ended}
-use Rattle.join_board.specs.Logs.{Each, log_in, shard_of, appended, fresh, parked_on, Missing, CanWait}
+use Rattle.join_board.specs.Logs.{Each, log_in, shard_of, appended, fresh, parked_on, IsListed, Missing, CanWait}
 use Rattle.join_board.specs.Views.{took_view, missed_view, gave_view, ahead_view, added_view, subtracted_view, alive_view, over_view, counted_view, asked_limit_view, asked_memory_view, unset_view, found_limit_view, found_memory_view, HasSeenEnd, HasSeenSpawn}
 use Rattle.join_board.specs.declared.view.Sight.{Sight}
 use Rattle.join_board.specs.declared.view.View.{View}
@@ -33,8 +33,10 @@ pub record Taken (v : View) (k : ℕ) (x : List Entry) : Type 0 where
   pub apart : (i j : ℕ) (e f : Entry) → get_elem? x i ≡ some e → get_elem? x j ≡ some f → f.log.path ≡ e.log.path → j ≡ i
   -- each task that waits in it can
   pub waits : Each (λ (e : Entry). Each (CanWait (the_job v.about) e.log.path) e.waiting) x
-  -- each log of the shard is at least as the seat had seen it
-  pub met : (i : ℕ) (t : Sight) → get_elem? v.seen i ≡ some t → shard_of t.path ≡ k → (t.length ≤ length (log_in x t.path)) × (t.ended ≡ true → ended (log_in x t.path) ≡ true)
+  -- each log of the shard is at least as the seat had seen it, and has an entry
+  pub met : (i : ℕ) (t : Sight) → get_elem? v.seen i ≡ some t → shard_of t.path ≡ k → (t.length ≤ length (log_in x t.path)) × (t.ended ≡ true → ended (log_in x t.path) ≡ true) × IsListed x t.path
+  -- each root of the shard has an entry
+  pub rooted : (j : ℕ) → j < length (the_job v.about).program.mains → shard_of (j ∷ []) ≡ k → IsListed x (j ∷ [])
 
 abbrev pub took : Step (Option (List Entry)) → Sat → ℕ → Sat → Type 0
 took st m n m' = (k : ℕ) → st.word ≡ word_of k → (n ≡ 0 → (x : List Entry) × (m' ≡ (took_view m.0 k x, (k, Some x) ∷ m.1)) × Taken m.0 k x) × (n ≢ 0 → m' ≡ (missed_view m.0 k, m.1))

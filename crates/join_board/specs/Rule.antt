@@ -12,7 +12,7 @@ use Rattle.task_state.specs.Tasks.{TaskKey}
 use Rattle.join_board.specs.Entries.{Entry}
 use Rattle.join_board.specs.Jobs.{the_job}
 use Rattle.join_board.specs.Threads.{PrioOf, outcome_at}
-use Rattle.join_board.specs.Logs.{total, Each, log_of, shard_at, shard_of, size, Shows, Covers, weigh, CanWait}
+use Rattle.join_board.specs.Logs.{total, Each, log_of, shard_at, shard_of, size, HasRoots, Shows, Covers, weigh, CanWait}
 use Rattle.join_board.specs.declared.view.About.{About}
 use Rattle.join_board.specs.declared.view.View.{View}
 use Rattle.join_board.specs.declared.view.Stop.{Stop}
@@ -73,12 +73,13 @@ pub record KeepsHands (shards : List (List Entry)) (words : List ℕ) (homes : L
   pub home : (k : ℕ) → k < 64 → slice_index words (word_of k) ≡ 0 → get_elem? homes k ≡ some (some (Some (shard_at shards k)))
   pub each : Each (HandTrue shards) views
 
--- rule 4
+-- rule 4, and the roots have entries from the start
 abbrev pub SeenTrue : List (List Entry) → View → Type 0
 SeenTrue shards v = Each (Shows shards) v.seen
 
-pub record KeepsSeen (shards : List (List Entry)) (views : List View) : Type 0 where
+pub record KeepsSeen (key : About) (shards : List (List Entry)) (views : List View) : Type 0 where
   pub each : Each (SeenTrue shards) views
+  pub rooted : HasRoots (the_job key) shards
 
 -- rule 3
 abbrev pub LiveTrue : ℕ → View → Type 0
@@ -123,7 +124,7 @@ pub record Keeps (key : About) (s : State (Option (List Entry)) View) : Type 0 w
   pub logs : KeepsLogs key shards config
   pub seats : KeepsSeats key (steps_of config) s.views
   pub hands : KeepsHands shards s.words s.homes s.views
-  pub seen : KeepsSeen shards s.views
+  pub seen : KeepsSeen key shards s.views
   pub live : KeepsLive (unended config) (slice_index s.words live_word) s.views
   pub spent : KeepsSpent key (steps_of config) (slice_index s.words spent_word) (slice_index s.words stop_word) s.views
   pub parked : KeepsParked key shards s.views

@@ -1,10 +1,15 @@
-use Rattle.std.proofs.Common.{◌≡◌, List, subst, arith, ⊎_elim}
+use Rattle.std.proofs.Common.{◌≡◌, List, sym, subst, arith, ⊎_elim}
 use mathlib.Core.Option.{some}
 use lib.ListN.{get_elem?}
 use Rattle.atomic_table.proofs.Lists.{at_snoc}
+use Rattle.core_steps.proofs.CoreLaws.{core_laws}
+use Rattle.trace_book.specs.Log.{Log}
+use Rattle.task_state.specs.Books.{ReadAs}
+use Rattle.join_board.specs.Jobs.{the_job}
 use Rattle.join_board.specs.Handles.{knows}
 use Rattle.join_board.specs.Close.{Absorbed}
 use Rattle.join_board.specs.declared.owned.BoardSeat.{BoardSeat}
+use Rattle.join_board.proofs.Readings.{reads_as}
 use Rattle.join_board.proofs.Gather.{front, last, total_snoc, contains_less}
 use Rattle.join_board.proofs.owned.Board.close.Goals as goal
 
@@ -30,5 +35,7 @@ returns c = let f = c.close_one.ensures in let h = c.gather.ensures.knows in let
     λ j s at. contains_less key f.2.0 f.0 (knows s) w
         (⊎_elim (λ (g : get_elem? c.pop.new.self.items j ≡ some s). h.1 j s g) (λ (g : c.in-Some.first ≡ s). subst (λ (z : BoardSeat). Absorbed (knows z) w) g h.0)
         (at_snoc c.pop.new.self.items c.in-Some.first s j (subst (λ (z : List BoardSeat). get_elem? z j ≡ some s) c.in-Some.ensures.items at))) f.2.2,
+    f.2.3,
+    (λ z. let done = ((core_laws (the_job key)).counts.none f.2.0 f.2.1.reached).0 z in (done, subst (λ (ls : List Log). ReadAs ls f.2.0) (sym f.1) (reads_as key f.0 f.2.0 f.2.1 done))),
   ),
 )

@@ -1,4 +1,4 @@
-use Rattle.std.proofs.Common.{rules, ◌≡◌, ℕ, ◌+◌, ◌<◌, List, ◌++◌, sym, ap, ◌∙◌, subst, refl, inl, arith, cond, append_assoc, append-nil}
+use Rattle.std.proofs.Common.{rules, ◌≡◌, ℕ, ◌+◌, ◌<◌, List, ◌++◌, sym, ap, ◌∙◌, subst, refl, inl, inr, arith, cond, append_assoc, append-nil}
 use mathlib.Core.Option.{some-injective}
 use lib.ListN.{get_elem?}
 use Rattle.join_board.specs.Threads.{spawned_last}
@@ -7,12 +7,13 @@ use Rattle.priml_syntax.specs.Events.{spawns, ends}
 use Rattle.trace_book.specs.Segments.{read_segment}
 use Rattle.join_board.specs.Plays.{Grew_by}
 use Rattle.join_board.specs.Jobs.{the_job}
-use Rattle.join_board.specs.Logs.{CanWait, Each, sights}
+use Rattle.join_board.specs.Logs.{CanWait, Each, Missing, sights}
+use Rattle.join_board.specs.Calls.{NotListed}
 use Rattle.join_board.specs.Entries.{Entry}
 use Rattle.task_state.specs.Tasks.{TaskKey}
 use Rattle.join_board.specs.declared.view.View.{View}
 use Rattle.join_board.proofs.Sums.{at_lt}
-use Rattle.join_board.proofs.Calls.{handed_wait, grows, grown, spawn_is, end_is, bit_few, sees_appended, hands}
+use Rattle.join_board.proofs.Calls.{handed_wait, not_listed, grows, grown, spawn_is, end_is, bit_few, sees_appended, hands}
 use Rattle.join_board.proofs.owned.Board.commit.Goals as goal
 
 pub len_at-len-requires : goal.len_at-len-requires
@@ -33,6 +34,16 @@ returns-then-len-segment-clause-answer c = let took = c.in-Some.ensures.found.0 
       (ap (λ (u : View). u.own) now, ap (λ (u : View). u.uncounted) now, ap (λ (u : View). u.keys) now),
       inl (at.0, i, ap (λ (u : View). get_elem? u.hand.copy i) now ∙ at.1, at.2, c.len_at-len.ensures at.0 at.1),
       inl (search rules),
+    )
+
+pub returns-in-None-clause-answer : goal.returns-in-None-clause-answer
+returns-in-None-clause-answer c = let took = c.in-Some.ensures.found in let v = c.args.seat.now.seat.me.0 in let p = c.args.segment.path in let k = c.shard_of-shard.result in let x = c.in-Some.value in let missing = c.in-None.ensures in
+    let now : c.give_back.new.seat.me.0 ≡ back_view (took_view v k x) = ap (λ m. m.0) c.give_back.ensures.given ∙ ap (λ m. back_view m.0) took.0 in let copy = ap (λ (u : View). u.hand.copy) (sym now) in (
+      refl,
+      (ap (λ (u : View). u.hand.taken) now, ap (λ (u : View). u.hand.last) now ∙ c.shard_of-shard.ensures.value),
+      (ap (λ (u : View). u.own) now, ap (λ (u : View). u.uncounted) now, ap (λ (u : View). u.keys) now),
+      inr (subst (λ (z : List Entry). Missing z p) copy missing, refl),
+      inr (subst (NotListed v p) copy (not_listed v k x p took.1 (sym c.shard_of-shard.ensures.value) missing)),
     )
 
 pub settle-requires-clause-grew : goal.settle-requires-clause-grew

@@ -4,11 +4,12 @@ use Rattle.std.specs.Option.{option_map}
 use Rattle.priml_syntax.specs.Read.{read_outcome}
 use Rattle.join_board.specs.Views.{took_view, back_view}
 use Rattle.join_board.specs.Logs.{sights, sight, Missing}
+use Rattle.join_board.specs.Calls.{NotListed}
 use Rattle.join_board.specs.Clauses.{EndedIn, NotEndedIn}
 use Rattle.join_board.specs.Entries.{Entry}
 use Rattle.join_board.specs.declared.view.View.{View}
 use Rattle.join_board.proofs.Sums.{at_lt}
-use Rattle.join_board.proofs.Calls.{met_at, length_missing, length_here, told_end, told_open, no_outcome, sees_entry}
+use Rattle.join_board.proofs.Calls.{met_at, not_listed, length_missing, length_here, told_end, told_open, no_outcome, sees_entry}
 use Rattle.join_board.proofs.owned.Board.look.Goals as goal
 
 pub len_at-length-requires : goal.len_at-length-requires
@@ -25,7 +26,7 @@ returns-in-None-clause-answer c = let took = c.in-Some.ensures.found in let v = 
       inr (subst (λ (z : List Entry). Missing z p) copy missing, refl),
       subst (λ (z : List Entry). NotEndedIn z p) copy (λ i e at q. absurd (missing i e at q)),
       met_at v k x p 0 took.1 (sym c.shard_of-shard.ensures.value) (length_missing x p missing),
-      inl (subst (λ (z : List Entry). Missing z p) copy missing),
+      inl (subst (NotListed v p) copy (not_listed v k x p took.1 (sym c.shard_of-shard.ensures.value) missing)),
     )
 
 pub returns-in-Ok-Some-clause-answer : goal.returns-in-Ok-Some-clause-answer

@@ -3,12 +3,13 @@ use mathlib.Core.Option.{some-injective}
 use Rattle.join_board.specs.Views.{took_view, quiet_view, back_view}
 use Rattle.join_board.specs.Plays.{Grew}
 use Rattle.join_board.specs.Logs.{size, spawned, finished}
+use Rattle.join_board.specs.Calls.{NotListed}
 use Rattle.join_board.specs.Clauses.{EndedIn}
 use Rattle.join_board.specs.Entries.{Entry}
 use Rattle.task_state.specs.Tasks.{TaskKey}
 use Rattle.join_board.specs.declared.view.View.{View}
 use Rattle.join_board.proofs.Sums.{at_lt}
-use Rattle.join_board.proofs.Calls.{parks, sums_parked, keys_parked, test_end, test_open}
+use Rattle.join_board.proofs.Calls.{not_listed, parks, sums_parked, keys_parked, test_end, test_open}
 use Rattle.join_board.proofs.owned.Board.park.Goals as goal
 
 pub has_ended-requires : goal.has_ended-requires
@@ -36,6 +37,15 @@ returns-then-has_ended-clause-answer c = let took = c.in-Some.ensures.found in l
       (ap (λ (u : View). u.hand.taken) now, ap (λ (u : View). u.hand.last) now ∙ c.shard_of-shard.ensures.value),
       (ap (λ (u : View). u.own) now, ap (λ (u : View). u.uncounted) now, ap (λ (u : View). u.keys) now),
       subst (λ (z : List Entry). EndedIn z p) copy (test_end v k x p i at.0 took.1 at.1 at.2 (sym (c.has_ended.ensures at.0 at.1) ∙ c.if-has_ended.true)),
+    )
+
+pub returns-in_default-find-clause-answer : goal.returns-in_default-find-clause-answer
+returns-in_default-find-clause-answer c = let took = c.in-Some.ensures.found in let v = c.args.seat.now.seat.me.0 in let p = c.args.path.now in let k = c.shard_of-shard.result in let x = c.in-Some.value in let missing = c.in_default-find.ensures in
+    let now : c.give_back.new.seat.me.0 ≡ back_view (took_view v k x) = ap (λ m. m.0) c.give_back.ensures.given ∙ ap (λ m. back_view m.0) took.0 in let copy = ap (λ (u : View). u.hand.copy) (sym now) in (
+      refl,
+      (ap (λ (u : View). u.hand.taken) now, ap (λ (u : View). u.hand.last) now ∙ c.shard_of-shard.ensures.value),
+      (ap (λ (u : View). u.own) now, ap (λ (u : View). u.uncounted) now, ap (λ (u : View). u.keys) now),
+      subst (NotListed v p) copy (not_listed v k x p took.1 (sym c.shard_of-shard.ensures.value) missing),
     )
 
 pub returns-in-Ok-clause-answer : goal.returns-in-Ok-clause-answer

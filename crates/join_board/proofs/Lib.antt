@@ -16,3 +16,4 @@ pub mod Books
 pub mod Readings
 pub mod Calls
 pub mod Gather
+pub mod Tasks

@@ -12,3 +12,4 @@ pub mod Calls
 pub mod Clauses
 pub mod Close
 pub mod Openings
+pub mod Tasks

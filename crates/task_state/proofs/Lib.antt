@@ -1,5 +1,5 @@
 mod Events
-mod States
+pub mod States
 mod Steps
 mod Runs
 mod Pieces

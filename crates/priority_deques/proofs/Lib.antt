@@ -7,3 +7,4 @@ pub mod Tables
 pub mod Keeps
 pub mod Opened
 pub mod Joins
+pub mod Crossing

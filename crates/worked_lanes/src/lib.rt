@@ -5,3 +5,5 @@
 mod cases;
 #[cfg(test)]
 mod tasks;
+#[cfg(test)]
+mod workers;

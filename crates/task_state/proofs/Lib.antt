@@ -3,5 +3,5 @@ pub mod States
 mod Steps
 mod Runs
 mod Pieces
-mod Books
-mod BookMeaning
+pub mod Books
+pub mod BookMeaning

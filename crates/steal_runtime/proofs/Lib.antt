@@ -1,0 +1,5 @@
+mod Seats
+mod Logs
+mod Tasks
+mod Books
+mod Ends

@@ -1,0 +1,9 @@
+use Rattle.std.proofs.Common.{◌≡◌}
+use Rattle.trace_book.specs.Segments.{read_segment}
+use Rattle.join_board.specs.Calls.{SameSeat}
+use Rattle.join_board.specs.Handles.{knows}
+use Rattle.steal_runtime.specs.Seats.{Sits}
+use Rattle.steal_runtime.proofs.publish.publish.Given as goal
+
+abbrev pub invariant-loop : goal.invariant-loop
+invariant-loop g l = Sits l.fn.board l.seat × SameSeat (knows l.fn.seat) (knows l.seat) × (read_segment l.segment ≡ read_segment l.fn.segment)

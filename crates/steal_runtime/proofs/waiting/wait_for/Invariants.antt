@@ -1,0 +1,8 @@
+use Rattle.std.proofs.Common.{◌≡◌}
+use Rattle.join_board.specs.Calls.{SameSeat}
+use Rattle.join_board.specs.Handles.{knows}
+use Rattle.steal_runtime.specs.Seats.{Sits}
+use Rattle.steal_runtime.proofs.waiting.wait_for.Given as goal
+
+abbrev pub invariant-loop : goal.invariant-loop
+invariant-loop g l = Sits l.fn.board l.seat × SameSeat (knows l.fn.seat) (knows l.seat) × (l.task ≡ l.fn.task) × (l.end ≡ l.fn.end)

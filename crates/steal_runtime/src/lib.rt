@@ -9,6 +9,7 @@ mod nap;
 mod parts;
 mod publish;
 mod put;
+mod run;
 mod seat;
 mod stops;
 mod turn;

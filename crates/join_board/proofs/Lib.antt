@@ -17,3 +17,4 @@ pub mod Readings
 pub mod Calls
 pub mod Gather
 pub mod Tasks
+pub mod Crossing

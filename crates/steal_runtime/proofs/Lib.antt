@@ -3,3 +3,4 @@ mod Logs
 mod Tasks
 mod Books
 mod Ends
+mod Crossing

@@ -18,4 +18,5 @@ mod work;
 
 pub use gate::{Free, Gate};
 pub use meet::Meet;
+pub use run::{run_job, run_over};
 pub use stops::RunStop;

@@ -1,17 +1,24 @@
 //! Runs of a job on workers.
 ghost use Rattle.std.specs.Prelude.{◌≡◌, ◌+◌, ◌-◌, ◌^◌, ◌<◌, ◌≤◌, length, true, IfErr, IfOk, OnOk, vec_len};
 ghost use Rattle.std.specs.List.{All};
+ghost use Rattle.core_steps.specs.Moves.{job_of};
+ghost use Rattle.priority_deques.specs.EndBooks.{steal_job};
 ghost use Rattle.join_board.specs.Jobs.{the_job};
 ghost use Rattle.steal_runtime.specs.Runs.{IsRun, IsStop};
-ghost use Rattle.steal_runtime.specs.Seats.{Leaves, Serves, Sits, SomeOver, about};
+ghost use Rattle.steal_runtime.specs.Seats.{IsFor, Leaves, Serves, Sits, SomeOver, about};
 
+use crate::gate::Gate;
 use crate::parts::{Duty, Left, Part};
 use crate::put::put;
 use crate::stops::RunStop;
+use crate::work::work;
 use join_board::{Board, BoardSeat};
-use priority_deques::Lanes;
+use priority_deques::{Lanes, StealLanes};
 use std::alloc::{AllocError, Global};
 use std::sync::Wait;
+use std::sync::atomic::AtomicU64;
+use std::thread;
+use std::thread::Threads;
 use task_state::Task;
 use trace_book::Book;
 use type_rules::Job;
@@ -65,6 +72,29 @@ fn deal<L: Lanes>(
     Ok(parts)
 }
 
+// Each worker works in a thread of its own, where one can be made.
+fn work_all<R: Threads + Wait + Sync, L: Lanes + Send, G: Gate>(
+    rt: &R,
+    board: &Board,
+    job: &Job,
+    gate: &G,
+    parts: Vec<Part<L>>,
+) -> Result<Vec<Left>, AllocError>
+    requires ready { All (λ p. Sits board.now p.seat × Serves board.now job.now p.duty) parts.items }
+    requires lanes { All (λ p. L.job p.end ≡ job.now) parts.items }
+    ensures { IfOk result (λ v. (vec_len v ≡ vec_len parts) × All (λ l. Leaves board.now l) v.items) }
+{
+    let bed = AtomicU64::new(0);
+    thread::map_vec(
+        rt,
+        parts,
+        &|part: Part<L>| -> Left
+            requires { (L.job part.end ≡ job.now) × (Sits board.now part.seat × Serves board.now job.now part.duty) }
+            ensures { Leaves board.entry.now result }
+        { work(rt, board, job, gate, &bed, part) },
+    )
+}
+
 // The seats of those that have left, and whether one of them found that every thread has ended.
 fn gather(
     _board: &Board,
@@ -104,4 +134,56 @@ fn answer(board: Board, seats: Vec<BoardSeat>, over: bool, limit: u64) -> Result
     } else {
         Err(RunStop::OutOfMemory)
     }
+}
+
+/// Runs the job on a worker for each end, 1 to 16, which are spent. A turn has at most `quantum` steps, at least 1. The book of a whole run has the records
+/// of the serial meaning. StepLimit comes exactly where the job's work exceeds `limit`. It may wait.
+pub fn run_over<R: Threads + Wait + Sync, L: Lanes + Send, G: Gate>(
+    rt: &R,
+    alloc: Global,
+    job: &Job,
+    ends: Vec<L>,
+    quantum: u32,
+    limit: u64,
+    gate: &G,
+) -> Result<Book, RunStop>
+    requires ends { (0 < vec_len ends) × (vec_len ends ≤ 16) }
+    requires lanes { All (λ e. L.job e ≡ job.now) ends.items }
+    requires ranges { (0 < quantum) × (limit + 1 < 2 ^ 64) }
+    ensures ok { IfOk result (λ b. IsRun (job_of job.now) (vec_len ends) quantum limit b) }
+    ensures stop { IfErr result (λ s. IsStop (job_of job.now) limit s) }
+{
+    let (board, seats) = Board::new(alloc, job, ends.len() as u32, quantum, limit)?;
+    let mut ends = ends;
+    put_roots(rt, alloc, job, &mut ends)?;
+    let mut closed = Vec::with_capacity(alloc, ends.len())?;
+    let first = Duty {
+        alloc,
+        worker: 0,
+        quantum,
+        limit,
+    };
+    let parts = deal(&board, job, first, ends, seats)?;
+    let all = work_all(rt, &board, job, gate, parts)?;
+    let over = gather(&board, all, &mut closed)?;
+    answer(board, closed, over, limit)
+}
+
+/// Runs the job on so many workers, 1 to 16, over stealing deques, as `run_over` does.
+pub fn run_job<R: Threads + Wait + Sync, G: Gate>(
+    rt: &R,
+    alloc: Global,
+    job: &Job,
+    workers: u32,
+    quantum: u32,
+    limit: u64,
+    gate: &G,
+) -> Result<Book, RunStop>
+    requires workers { (0 < workers) × (workers ≤ 16) }
+    requires ranges { (0 < quantum) × (limit + 1 < 2 ^ 64) }
+    ensures ok { IfOk result (λ b. IsRun (job_of job.now) workers quantum limit b) }
+    ensures stop { IfErr result (λ s. IsStop (job_of job.now) limit s) }
+{
+    let ends = StealLanes::open(alloc, job, workers)?;
+    run_over(rt, alloc, job, ends, quantum, limit, gate)
 }

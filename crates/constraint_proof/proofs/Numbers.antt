@@ -6,7 +6,7 @@ use Rattle.std.proofs.Math.ListN.{get_or-map}
 use Rattle.std.proofs.lemmas.List.Elements.{All-contains, Contains-append_left, Contains-append_right, Contains-append_cases}
 use Rattle.priml_syntax.specs.declared.prio.Prio.{Prio}
 use Rattle.priml_syntax.specs.declared.prio.Prio.TheVariants.{Const, Var}
-use Rattle.priority_order.specs.Order.{Pair, Leads, AtMost, IsWithin}
+use Rattle.priority_order.specs.Order.{Pair, IsChain, AtMost, IsWithin}
 use Rattle.priority_order.proofs.Paths.{reflexive, transitive, declared}
 use Rattle.constraint_proof.specs.Entailed.{Constraint, Entailed, by_declared, by_assumed, by_reflexive, by_transitive, IsValid, AreValid}
 use Rattle.constraint_proof.specs.Numbers.{number, numbered}
@@ -63,7 +63,7 @@ module _ (count : ℕ) (pairs : List Pair) (given : List Constraint) where
         let same : c.0 ≡ p = same_number count c.0 p ok.0 v (ap (λ (x : Pair). x.0) m.2 ∙ is) in
         (c.1, ok.1, ap (λ (x : Pair). x.1) m.2, subst (λ x. Entailed pairs given x c.1) same (by_assumed m.1))
 
-    path_reaches : (p : Prio) → IsValid count p → (x : ℕ) → x ≡ number count p → (path : List Pair) (y : ℕ) → Leads (edges count pairs given) x path y → Reaches p y
+    path_reaches : (p : Prio) → IsValid count p → (x : ℕ) → x ≡ number count p → (path : List Pair) (y : ℕ) → IsChain (edges count pairs given) x path y → Reaches p y
     path_reaches p v x is [] y e = record { end = p; valid = v; is = sym is ∙ e; entailed = by_reflexive }
     path_reaches p v x is (e ∷ path) y l =
         let s = first_step p e v (Contains-append_cases pairs (map (numbered count) given) e l.0) (l.1 ∙ is) in

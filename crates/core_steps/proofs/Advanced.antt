@@ -15,8 +15,8 @@ use Rattle.core_steps.specs.Locals.{IsLocal, IsFed, ended_with}
 use Rattle.core_steps.specs.Moves.{Goes}
 use Rattle.core_steps.specs.Determined.{Fed, events_of}
 use Rattle.core_steps.specs.Steps.{Job, State, step, awaits, outcome_in, Ran}
-use Rattle.core_steps.specs.Config.{Thread, thread_at, handed, put, with_child, after}
-use Rattle.core_steps.specs.Configs.{SlotFields, read_slot, slot_at, slot_put, with_slot, threads_from, IsCounted, SlotsRise, AreSlots, IsTold, JoinsAt, StandsAt, StepsAt, Advanced, Advances}
+use Rattle.core_steps.specs.Config.{Thread, thread_by_path, handed, put, with_child, after}
+use Rattle.core_steps.specs.Configs.{SlotFields, read_slot, slot_at, slot_put, with_slot, threads_from, IsCounted, SlotsRise, AreSlots, SlotNeeds, JoinsAt, StandsAt, StepsAt, Advanced, Advances}
 use Rattle.core_steps.proofs.StepLaws.{state_path}
 use Rattle.core_steps.proofs.StepFacts.{step_facts}
 use Rattle.core_steps.proofs.Threads.{found_path}
@@ -46,7 +46,7 @@ each_slot P (x ∷ ss) p s a e = go (same_path x.local.path p) (each_slot P ss p
 
 -- what the step of a slot asks
 module _ (job : Job) (ss : List SlotFields) (c : AreSlots job ss) (p : List ℕ) (s : SlotFields) (found : slot_at ss p ≡ Some s) where
-  thread : (t : Thread) × (thread_at c.threads p ≡ Some t) × Stands job.program s t
+  thread : (t : Thread) × (thread_by_path c.threads p ≡ Some t) × Stands job.program s t
   thread = found_thread job ss c.threads p s c.reads found
 
   pub slot_counted : s.local.steps ≡ length s.events
@@ -62,7 +62,7 @@ module _ (job : Job) (ss : List SlotFields) (c : AreSlots job ss) (p : List ℕ)
         determined = (t.0.events, ap length (sym t.2.events) ∙ sym slot_counted, subst (λ q. Ran job q t.0.events t.0.state) (sym (path_stands job.program s t.0 t.2 ∙ found_path c.threads p t.0 t.1)) ran);
       }
 
-  module _ (b : Option (List ℕ)) (w : Option Outcome') (told : IsTold job ss p b w) where
+  module _ (b : Option (List ℕ)) (w : Option Outcome') (told : SlotNeeds job ss p b w) where
     state_told : (x : State) → state_of job.program s.local ≡ Some x → (outcome_in x.phase ≡ None) × (awaits x ≡ b) × (handed c.threads b ≡ Some w)
     state_told x is =
         let u = told c.threads c.reads in
@@ -115,11 +115,11 @@ kept_at xs i s s' (Ok m) l at e = tt
 kept_at xs i s s' (Err x) l at e = slot_kept xs i s s' l (e ∙ ap read_slot at)
 
 -- the configuration after it
-module _ (job : Job) (ss : List SlotFields) (c : AreSlots job ss) (p : List ℕ) (b : Option (List ℕ)) (w : Option Outcome') (told : IsTold job ss p b w) (m : TheMade) (mid : List SlotFields) (k : StepsAt job ss p w m mid) where
+module _ (job : Job) (ss : List SlotFields) (c : AreSlots job ss) (p : List ℕ) (b : Option (List ℕ)) (w : Option Outcome') (told : SlotNeeds job ss p b w) (m : TheMade) (mid : List SlotFields) (k : StepsAt job ss p w m mid) where
   pub mid_rises : SlotsRise mid
   mid_rises = subst SlotsRise (sym k.put) (put_rises k.next ss (slots_rise job ss c))
 
-  abbrev stepper : (t : Thread) × (thread_at c.threads p ≡ Some t) × Stands job.program k.old t
+  abbrev stepper : (t : Thread) × (thread_by_path c.threads p ≡ Some t) × Stands job.program k.old t
   stepper = found_thread job ss c.threads p k.old c.reads k.found
 
   same_state : stepper.0.state ≡ k.goes.old

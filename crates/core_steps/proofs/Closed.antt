@@ -11,7 +11,7 @@ use Rattle.priml_syntax.specs.Values.{Outcome'}
 use Rattle.priml_syntax.specs.Paths.{child_path}
 use Rattle.priml_syntax.specs.Events.{one_spawn, spawns, one_end}
 use Rattle.core_steps.specs.Steps.{Job, Ended, State, Moved, step, awaits, outcome_in, Ran, born, alone, joined}
-use Rattle.core_steps.specs.Config.{Thread, thread_at, put, added, with_child, ended_of, handed, after, moved, chosen, followed}
+use Rattle.core_steps.specs.Config.{Thread, thread_by_path, put, added, with_child, ended_of, handed, after, moved, chosen, followed}
 use Rattle.core_steps.specs.Determined.{events_in, events_of, IsIn, steps_of, one_live, unended}
 use Rattle.core_steps.specs.Laws.{IsRoot}
 use Rattle.core_steps.proofs.Order.{not_below_self}
@@ -28,26 +28,26 @@ HasParent job ts p = IsRoot job p ⊎ ((q : List ℕ) × (k : ℕ) × (p ≡ chi
 -- each thread is in its determined state; the threads are in the order of paths, with the roots, each thread's children and parent, and the threads
 -- that their states name among them
 pub record Closed (job : Job) (ts : List Thread) : Type 0 where
-  pub ran : (p : List ℕ) (t : Thread) → thread_at ts p ≡ Some t → Ran job p t.events t.state
+  pub ran : (p : List ℕ) (t : Thread) → thread_by_path ts p ≡ Some t → Ran job p t.events t.state
   pub order : InOrder ts
   pub roots : (p : List ℕ) → IsRoot job p → IsIn ts p
   pub children : (q : List ℕ) (k : ℕ) → k < spawns (events_of ts q) → IsIn ts (child_path q k)
   pub parents : (p : List ℕ) → IsIn ts p → HasParent job ts p
-  pub names : (p : List ℕ) (t : Thread) → thread_at ts p ≡ Some t → OfPhase (IsIn ts) t.state.phase
+  pub names : (p : List ℕ) (t : Thread) → thread_by_path ts p ≡ Some t → OfPhase (IsIn ts) t.state.phase
 
 -- a choice that a configuration allows: the thread of the path, the outcome that it is handed, and its step
 pub record Choice (job : Job) (ts : List Thread) (p : List ℕ) : Type 0 where
   pub thread : Thread
   pub outcome : Option Outcome'
   pub move : Moved
-  pub found : thread_at ts p ≡ Some thread
+  pub found : thread_by_path ts p ≡ Some thread
   pub given : handed ts (awaits thread.state) ≡ Some outcome
   pub steps : step job thread.state outcome ≡ Some move
 
 -- a choice that leads to a configuration is such a one, and such a one leads to it
 pub choice : (job : Job) (ts : List Thread) (p : List ℕ) (us : List Thread) → chosen job ts p ≡ Some us → (c : Choice job ts p) × (after ts c.thread c.move ≡ us)
 choice job ts p us e =
-    option_and_then_some (λ t. option_and_then (λ m. Some (after ts t m)) (moved job ts t)) (thread_at ts p) us e
+    option_and_then_some (λ t. option_and_then (λ m. Some (after ts t m)) (moved job ts t)) (thread_by_path ts p) us e
     (λ t a f. option_and_then_some (λ m. Some (after ts t m)) (moved job ts t) us f
     (λ m g h. option_and_then_some (λ w. step job t.state w) (handed ts (awaits t.state)) m g
     (λ w b c. (record { thread = t; outcome = w; move = m; found = a; given = b; steps = c }, same_Some (after ts t m) us h))))
@@ -60,26 +60,26 @@ choice_followed job ts p c =
     ap (option_and_then (λ m. Some (after ts c.thread m))) c.steps))
 
 -- an outcome that is handed in is that of a thread that has ended
-pub ended_given : (ts : List Thread) (b : List ℕ) (w : Option Outcome') → handed ts (Some b) ≡ Some w → (u : Thread) × (o : Outcome') × (thread_at ts b ≡ Some u) × (u.state.phase ≡ Ended o) × (w ≡ Some o)
-ended_given ts b w e = go (thread_at ts b) refl e
+pub ended_given : (ts : List Thread) (b : List ℕ) (w : Option Outcome') → handed ts (Some b) ≡ Some w → (u : Thread) × (o : Outcome') × (thread_by_path ts b ≡ Some u) × (u.state.phase ≡ Ended o) × (w ≡ Some o)
+ended_given ts b w e = go (thread_by_path ts b) refl e
   where
-    go : (o : Option Thread) → thread_at ts b ≡ o → ended_of o ≡ Some w → (u : Thread) × (o : Outcome') × (thread_at ts b ≡ Some u) × (u.state.phase ≡ Ended o) × (w ≡ Some o)
+    go : (o : Option Thread) → thread_by_path ts b ≡ o → ended_of o ≡ Some w → (u : Thread) × (o : Outcome') × (thread_by_path ts b ≡ Some u) × (u.state.phase ≡ Ended o) × (w ≡ Some o)
     go None a h = absurd (none-some w h)
     go (Some u) a h = option_and_then_some (λ o. Some (Some o)) (outcome_in u.state.phase) w h (λ o q k. (u, o, a, ended_phase u.state.phase o q, sym (same_Some (Some o) w k)))
 
 -- what a thread that has ended hands in
-pub given_ended : (ts : List Thread) (b : List ℕ) (u : Thread) (o : Outcome') → thread_at ts b ≡ Some u → outcome_in u.state.phase ≡ Some o → handed ts (Some b) ≡ Some (Some o)
+pub given_ended : (ts : List Thread) (b : List ℕ) (u : Thread) (o : Outcome') → thread_by_path ts b ≡ Some u → outcome_in u.state.phase ≡ Some o → handed ts (Some b) ≡ Some (Some o)
 given_ended ts b u o e h = ap ended_of e ∙ ap (option_and_then (λ x. Some (Some x))) h
 
 -- a child that is added is found, and the others as before
-child_found : (o : Option State) (s : State) (ts : List Thread) → o ≡ Some s → thread_at ts s.path ≡ None → thread_at (with_child o ts) s.path ≡ Some (record { state = s; events = [] })
+child_found : (o : Option State) (s : State) (ts : List Thread) → o ≡ Some s → thread_by_path ts s.path ≡ None → thread_by_path (with_child o ts) s.path ≡ Some (record { state = s; events = [] })
 child_found o s ts e n = rw e (added_found (record { state = s; events = [] }) ts n)
 
-child_others : (o : Option State) (ts : List Thread) (q : List ℕ) → ((s : State) → o ≡ Some s → q ≢ s.path) → thread_at (with_child o ts) q ≡ thread_at ts q
+child_others : (o : Option State) (ts : List Thread) (q : List ℕ) → ((s : State) → o ≡ Some s → q ≢ s.path) → thread_by_path (with_child o ts) q ≡ thread_by_path ts q
 child_others None ts q f = refl
 child_others (Some s) ts q f = added_others (record { state = s; events = [] }) ts q (f s refl)
 
-child_in_order : (o : Option State) (ts : List Thread) → ((s : State) → o ≡ Some s → thread_at ts s.path ≡ None) → InOrder ts → InOrder (with_child o ts)
+child_in_order : (o : Option State) (ts : List Thread) → ((s : State) → o ≡ Some s → thread_by_path ts s.path ≡ None) → InOrder ts → InOrder (with_child o ts)
 child_in_order None ts f s = s
 child_in_order (Some c) ts f s = added_in_order (record { state = c; events = [] }) ts (f c refl) s
 
@@ -106,8 +106,8 @@ module _ (job : Job) (ts : List Thread) (k : Closed job ts) (p : List ℕ) (c : 
   moved_path : c.move.next.path ≡ p
   moved_path = facts.path ∙ found_path ts p c.thread c.found
 
-  found_before : thread_at ts c.move.next.path ≡ Some c.thread
-  found_before = ap (thread_at ts) moved_path ∙ c.found
+  found_before : thread_by_path ts c.move.next.path ≡ Some c.thread
+  found_before = ap (thread_by_path ts) moved_path ∙ c.found
 
   ran_before : Ran job p c.thread.events c.thread.state
   ran_before = k.ran p c.thread c.found
@@ -135,8 +135,8 @@ module _ (job : Job) (ts : List Thread) (k : Closed job ts) (p : List ℕ) (c : 
       go (Some b) a = absurd (let z : Spawn ≡ Join b = sym (child_is s e).0 ∙ joins_awaited job c.thread.state c.outcome c.move b a c.steps in let y : ⊥ = cc in y)
 
   -- the child was not there
-  fresh : (s : State) → c.move.child ≡ Some s → thread_at ts s.path ≡ None
-  fresh s e = go (thread_at ts s.path) refl
+  fresh : (s : State) → c.move.child ≡ Some s → thread_by_path ts s.path ≡ None
+  fresh s e = go (thread_by_path ts s.path) refl
     where
       no : HasParent job ts s.path → ⊥
       no (inl r) = (named ran_before).some (same_from_push p [] c.thread.state.children r.0 (sym (child_is s e).1 ∙ r.2)).0
@@ -144,23 +144,23 @@ module _ (job : Job) (ts : List Thread) (k : Closed job ts) (p : List ℕ) (c : 
           let z : (h.0 ≡ p) × (h.1 ≡ c.thread.state.children) = same_from_push h.0 p h.1 c.thread.state.children (sym h.2 ∙ (child_is s e).1) in
           omega (arith, h.3, ap (λ q. spawns (events_of ts q)) z.0, z.1, children_before)
 
-      go : (o : Option Thread) → thread_at ts s.path ≡ o → o ≡ None
+      go : (o : Option Thread) → thread_by_path ts s.path ≡ o → o ≡ None
       go None q = refl
       go (Some u) q = absurd (no (k.parents s.path (u, q)))
 
-  found_moved : thread_at us p ≡ Some moved_thread
+  found_moved : thread_by_path us p ≡ Some moved_thread
   found_moved =
       child_others c.move.child (put moved_thread ts) p (λ s e q. not_below_self p (c.thread.state.children, [], q ∙ (child_is s e).1)) ∙
-      subst (λ q. thread_at (put moved_thread ts) q ≡ Some moved_thread) moved_path (put_found moved_thread c.thread ts found_before)
+      subst (λ q. thread_by_path (put moved_thread ts) q ≡ Some moved_thread) moved_path (put_found moved_thread c.thread ts found_before)
 
   not_moved : (s : State) → c.move.child ≡ Some s → s.path ≢ c.move.next.path
   not_moved s e q = not_below_self p (c.thread.state.children, [], sym (q ∙ moved_path) ∙ (child_is s e).1)
 
-  found_child : (s : State) → c.move.child ≡ Some s → thread_at us s.path ≡ Some (record { state = s; events = [] })
+  found_child : (s : State) → c.move.child ≡ Some s → thread_by_path us s.path ≡ Some (record { state = s; events = [] })
   found_child s e = child_found c.move.child s (put moved_thread ts) e (put_others moved_thread ts s.path (not_moved s e) ∙ fresh s e)
 
   -- a path is that of the thread that moved, or that of the child, or finds what it found before
-  at_path : (P : List ℕ → Type 0) → P p → ((s : State) → c.move.child ≡ Some s → P s.path) → ((q : List ℕ) → thread_at us q ≡ thread_at ts q → P q) → (q : List ℕ) → P q
+  at_path : (P : List ℕ → Type 0) → P p → ((s : State) → c.move.child ≡ Some s → P s.path) → ((q : List ℕ) → thread_by_path us q ≡ thread_by_path ts q → P q) → (q : List ℕ) → P q
   at_path P a b f q = elim (same_or_not q p) [ inl e ↦ subst P (sym e) a | inr n ↦ go c.move.child refl n ]
     where
       go : (o : Option State) → c.move.child ≡ o → q ≢ p → P q
@@ -171,9 +171,9 @@ module _ (job : Job) (ts : List Thread) (k : Closed job ts) (p : List ℕ) (c : 
       ]
 
   -- what holds of the moved thread, of the child and of each thread before, holds of each thread after
-  each_after : (P : List ℕ → Thread → Type 0) → P p moved_thread → ((s : State) → c.move.child ≡ Some s → P s.path (record { state = s; events = [] })) → ((q : List ℕ) (u : Thread) → thread_at ts q ≡ Some u → P q u) →
-      (q : List ℕ) (u : Thread) → thread_at us q ≡ Some u → P q u
-  each_after P a b f = at_path (λ q. (u : Thread) → thread_at us q ≡ Some u → P q u)
+  each_after : (P : List ℕ → Thread → Type 0) → P p moved_thread → ((s : State) → c.move.child ≡ Some s → P s.path (record { state = s; events = [] })) → ((q : List ℕ) (u : Thread) → thread_by_path ts q ≡ Some u → P q u) →
+      (q : List ℕ) (u : Thread) → thread_by_path us q ≡ Some u → P q u
+  each_after P a b f = at_path (λ q. (u : Thread) → thread_by_path us q ≡ Some u → P q u)
       (λ u e. subst (P p) (same_Some moved_thread u (sym found_moved ∙ e)) a)
       (λ s h u e. subst (P s.path) (same_Some _ u (sym (found_child s h) ∙ e)) (b s h))
       (λ q z u e. f q u (sym z ∙ e))

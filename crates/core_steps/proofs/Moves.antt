@@ -9,7 +9,7 @@ use Rattle.priml_syntax.specs.declared.prio.Prio.{Prio}
 use Rattle.priml_syntax.specs.declared.value.FaultKind.{FaultKind}
 use Rattle.priml_syntax.specs.declared.value.FaultKind.TheVariants.{Depth}
 use Rattle.priml_syntax.specs.Paths.{child_path}
-use Rattle.priml_syntax.specs.Tree.{Term, Code, Body, bind, give, Act, spawn, call, run, Routine, Tree, inside}
+use Rattle.priml_syntax.specs.Tree.{Term, Code, Body, bind, ret_tail, Act, spawn, call, do_block, Routine, Tree, inside}
 use Rattle.priml_syntax.specs.Values.{Value', thread_value, Outcome', returned, faulted}
 use Rattle.core_steps.specs.declared.place.Turn.TheVariants.{Bind as At}
 use Rattle.core_steps.specs.Expressions.{result_of, results_of, AllGave}
@@ -116,10 +116,10 @@ enters job l w at a k s f c mode body inner runs =
     (running_opens job.program (record l { top = f; below = l.below ++ past l.top ∷ [] }) (opened_at f c) (opened_at l.top k ∷ s.below) mode (frame_opens job.program f c inner) (frames_push job.program l.below (past l.top) s.below (opened_at l.top k) s.below_are waits)) refl tt
 
 -- a block within
-pub runs_block : (job : Job) (l : LocalFields) (w : Option Outcome') (at : ℕ) (b : Code) (k : Body) (s : Stands job l (bind at (run b) k)) → l.mode ≡ running → body_at job.program l.top ≡ Some (bind at (run b) k) →
+pub runs_block : (job : Job) (l : LocalFields) (w : Option Outcome') (at : ℕ) (b : Code) (k : Body) (s : Stands job l (bind at (do_block b) k)) → l.mode ≡ running → body_at job.program l.top ≡ Some (bind at (do_block b) k) →
     Goes job l w Plain None (record l { top = within_frame l.top (At l.top.done); below = l.below ++ past l.top ∷ [] })
 runs_block job l w at b k s mode body =
-    enters job l w at (run b) k s (within_frame l.top (At l.top.done)) (inside b) mode body (body_within job.program l.top at (run b) k b body refl) refl
+    enters job l w at (do_block b) k s (within_frame l.top (At l.top.done)) (inside b) mode body (body_within job.program l.top at (do_block b) k b body refl) refl
 
 -- a procedure
 pub calls : (job : Job) (l : LocalFields) (w : Option Outcome') (at g : ℕ) (ps : List Prio) (es : List Term) (k : Body) (s : Stands job l (bind at (call g ps es) k)) (r : Routine) (vs : List Value') → l.mode ≡ running →
@@ -138,23 +138,23 @@ branches job l w c d s f mode inner runs =
     goes_to job l w c s _ Plain None (record l { top = f }) runs refl (running_opens job.program (record l { top = f }) (opened_at f d) s.below mode (frame_opens job.program f d inner) s.below_are) refl tt
 
 -- the value goes to the frame below
-pub leaves : (job : Job) (l : LocalFields) (w : Option Outcome') (at : ℕ) (e : Term) (s : Stands job l (give at e)) (fs : List FrameFields) (f : FrameFields) (v : Value') → l.mode ≡ running → l.below ≡ fs ++ f ∷ [] → result_of l.top.scope e ≡ Some (returned v) →
+pub leaves : (job : Job) (l : LocalFields) (w : Option Outcome') (at : ℕ) (e : Term) (s : Stands job l (ret_tail at e)) (fs : List FrameFields) (f : FrameFields) (v : Value') → l.mode ≡ running → l.below ≡ fs ++ f ∷ [] → result_of l.top.scope e ≡ Some (returned v) →
     Goes job l w Plain None (record l { top = record f { scope = f.scope ++ v ∷ [] }; below = fs })
 leaves job l w at e s fs f v mode below gives =
     let i = frames_pop job.program fs f s.below (ap (frames_of job.program) (sym below) ∙ s.below_are) in
     let outer = frame_is job.program f i.frame i.opens in
     let next : frame_of job.program (record f { scope = f.scope ++ v ∷ [] }) ≡ Some (bound i.frame i.frame.code v) = frame_opens job.program (record f { scope = f.scope ++ v ∷ [] }) i.frame.code outer.0 ∙ ap (λ (t : Frame). Some (bound t i.frame.code v)) outer.1 in
-    let t = opened_at l.top (give at e) in
-    goes_to job l w (give at e) s (record { event = Plain; next = in_phase l (Run (bound i.frame i.frame.code v) i.others); child = None }) Plain None (record l { top = record f { scope = f.scope ++ v ∷ [] }; below = fs })
+    let t = opened_at l.top (ret_tail at e) in
+    goes_to job l w (ret_tail at e) s (record { event = Plain; next = in_phase l (Run (bound i.frame i.frame.code v) i.others); child = None }) Plain None (record l { top = record f { scope = f.scope ++ v ∷ [] }; below = fs })
     (ap (λ o. with_result (in_phase l (Run t s.below)) o (back_to (in_phase l (Run t s.below)) s.below)) gives ∙ ap (λ gs. back_to (in_phase l (Run t gs)) gs v) i.are)
     refl (running_opens job.program (record l { top = record f { scope = f.scope ++ v ∷ [] }; below = fs }) (bound i.frame i.frame.code v) i.others mode next i.rest) refl tt
 
 -- or the thread ends with it
-pub ends : (job : Job) (l : LocalFields) (w : Option Outcome') (at : ℕ) (e : Term) (s : Stands job l (give at e)) (v : Value') → l.below ≡ [] → result_of l.top.scope e ≡ Some (returned v) → Goes job l w End None (record l { mode = ended (returned v) })
+pub ends : (job : Job) (l : LocalFields) (w : Option Outcome') (at : ℕ) (e : Term) (s : Stands job l (ret_tail at e)) (v : Value') → l.below ≡ [] → result_of l.top.scope e ≡ Some (returned v) → Goes job l w End None (record l { mode = ended (returned v) })
 ends job l w at e s v below gives =
     let none : s.below ≡ [] = same_Some s.below [] (sym s.below_are ∙ ap (frames_of job.program) below) in
-    let t = opened_at l.top (give at e) in
-    goes_to job l w (give at e) s (record { event = End; next = in_phase l (Ended (returned v)); child = None }) End None (record l { mode = ended (returned v) })
+    let t = opened_at l.top (ret_tail at e) in
+    goes_to job l w (ret_tail at e) s (record { event = End; next = in_phase l (Ended (returned v)); child = None }) End None (record l { mode = ended (returned v) })
     (ap (λ o. with_result (in_phase l (Run t s.below)) o (back_to (in_phase l (Run t s.below)) s.below)) gives ∙ ap (λ gs. back_to (in_phase l (Run t gs)) gs v) none) refl refl refl tt
 
 -- a thread that has not started enters its block

@@ -5,7 +5,7 @@ use Rattle.std.proofs.lemmas.Option.{same_Some, none-some}
 use Rattle.priml_syntax.specs.declared.expr.Op.{Op}
 use Rattle.priml_syntax.specs.declared.expr.Op.TheVariants.{Add, Sub, Mul, Div, Rem, Less, AtMost, Equal, And, Or}
 use Rattle.priml_syntax.specs.declared.value.FaultKind.TheVariants.{Overflow}
-use Rattle.priml_syntax.specs.Tree.{Term, var, number, truth, nothing, both, first, second, left, right, binary, negated}
+use Rattle.priml_syntax.specs.Tree.{Term, var, number, bool_term, unit_term, pair_term, first, second, left, right, binary, negated}
 use Rattle.priml_syntax.specs.Values.{Value', unit_value, bool_value, int_value, pair_value, left_value, right_value, thread_value, Outcome', returned, faulted}
 use Rattle.core_steps.specs.Expressions.{result_of, results_of, Results, AllGave, OneFault, one_more, with_one, with_two, gave, fits, divided, remainder, op_value, number_op, truth_op, fst_value, snd_value, not_value}
 use Rattle.core_steps.specs.Steps.{Frame, Phase, Fresh, Run, Failing, Ended, thread_in}
@@ -150,9 +150,9 @@ module _ (P : List ℕ → Type 0) where
   pub result_names : (vs : List Value') (e : Term) → OfScope P vs → OfGiven P (result_of vs e)
   result_names vs (var at x) s = get_names vs x s
   result_names vs (number at z) s = tt
-  result_names vs (truth at b) s = tt
-  result_names vs (nothing at) s = tt
-  result_names vs (both at a b) s = two_names (result_of vs a) (result_of vs b) _ (result_names vs a s) (result_names vs b s) (λ v w h k. (h, k))
+  result_names vs (bool_term at b) s = tt
+  result_names vs (unit_term at) s = tt
+  result_names vs (pair_term at a b) s = two_names (result_of vs a) (result_of vs b) _ (result_names vs a s) (result_names vs b s) (λ v w h k. (h, k))
   result_names vs (first at a) s = one_names (result_of vs a) fst_value (result_names vs a s) first_names
   result_names vs (second at a) s = one_names (result_of vs a) snd_value (result_names vs a s) second_names
   result_names vs (left at t a) s = one_names (result_of vs a) _ (result_names vs a s) (λ v h. h)

@@ -3,7 +3,7 @@ use Rattle.std.proofs.Common.{◌≡◌, ℕ, zero, suc, ◌+◌, List, [], ◌�
 use Rattle.std.specs.Option.{option_and_then, option_map}
 use Rattle.std.proofs.lemmas.Option.{same_Some}
 use Rattle.std.specs.Prelude.{slice_get}
-use Rattle.priml_syntax.specs.Tree.{Code, block, Body, bind, give, branch, split, Act, Routine, Tree, inside}
+use Rattle.priml_syntax.specs.Tree.{Code, block, Body, bind, ret_tail, if_tail, case_tail, Act, Routine, Tree, inside}
 use Rattle.priml_syntax.specs.Values.{Value'}
 use Rattle.core_steps.specs.declared.place.Turn.{Turn}
 use Rattle.core_steps.specs.declared.place.Turn.TheVariants.{Bind as At, First, Second}
@@ -19,31 +19,31 @@ one_more n = omega arith
 past_action : (n : ℕ) (b : Body) (at : ℕ) (a : Act) (k : Body) → body_from n b ≡ Some (bind at a k) → body_from (n + 1) b ≡ Some k
 past_action zero b at a k e = ap (λ c. option_and_then (body_from 1) c) e
 past_action (suc n) (bind q x b) at a k e = rw (one_more n) (past_action n b at a k e)
-past_action (suc n) (give q e) at a k h = absurd (cc)
-past_action (suc n) (branch q e x y) at a k h = absurd (cc)
-past_action (suc n) (split q e x y) at a k h = absurd (cc)
+past_action (suc n) (ret_tail q e) at a k h = absurd (cc)
+past_action (suc n) (if_tail q e x y) at a k h = absurd (cc)
+past_action (suc n) (case_tail q e x y) at a k h = absurd (cc)
 
 at_action : (n : ℕ) (b : Body) (at : ℕ) (a : Act) (k : Body) → body_from n b ≡ Some (bind at a k) → action_at n b ≡ Some a
 at_action zero b at a k e = ap (λ c. option_and_then (action_at 0) c) e
 at_action (suc n) (bind q x b) at a k e = at_action n b at a k e
-at_action (suc n) (give q e) at a k h = absurd (cc)
-at_action (suc n) (branch q e x y) at a k h = absurd (cc)
-at_action (suc n) (split q e x y) at a k h = absurd (cc)
+at_action (suc n) (ret_tail q e) at a k h = absurd (cc)
+at_action (suc n) (if_tail q e x y) at a k h = absurd (cc)
+at_action (suc n) (case_tail q e x y) at a k h = absurd (cc)
 
 -- an ending is that of the whole body
 first_from : (n : ℕ) (b c : Body) → body_from n b ≡ Some c → first_code b ≡ first_code c
 first_from zero b c e = ap first_code (same_Some b c e)
 first_from (suc n) (bind q x b) c e = first_from n b c e
-first_from (suc n) (give q e) c h = absurd (cc)
-first_from (suc n) (branch q e x y) c h = absurd (cc)
-first_from (suc n) (split q e x y) c h = absurd (cc)
+first_from (suc n) (ret_tail q e) c h = absurd (cc)
+first_from (suc n) (if_tail q e x y) c h = absurd (cc)
+first_from (suc n) (case_tail q e x y) c h = absurd (cc)
 
 second_from : (n : ℕ) (b c : Body) → body_from n b ≡ Some c → second_code b ≡ second_code c
 second_from zero b c e = ap second_code (same_Some b c e)
 second_from (suc n) (bind q x b) c e = second_from n b c e
-second_from (suc n) (give q e) c h = absurd (cc)
-second_from (suc n) (branch q e x y) c h = absurd (cc)
-second_from (suc n) (split q e x y) c h = absurd (cc)
+second_from (suc n) (ret_tail q e) c h = absurd (cc)
+second_from (suc n) (if_tail q e x y) c h = absurd (cc)
+second_from (suc n) (case_tail q e x y) c h = absurd (cc)
 
 -- one turn more
 walk_more : (ts : List Turn) (t : Turn) (c : Code) → walk (ts ++ t ∷ []) c ≡ option_and_then (turned t) (walk ts c)

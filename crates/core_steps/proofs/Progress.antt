@@ -4,7 +4,7 @@ use Rattle.std.specs.List.{AllByRecursion}
 use Rattle.priml_syntax.specs.Values.{Outcome'}
 use Rattle.priml_syntax.specs.Paths.{Before}
 use Rattle.core_steps.specs.Steps.{Job, awaits, Ran, outcome_in}
-use Rattle.core_steps.specs.Config.{Thread, thread_at, handed, after, followed, Reached, IsFinished}
+use Rattle.core_steps.specs.Config.{Thread, thread_by_path, handed, after, followed, Reached, IsFinished}
 use Rattle.core_steps.specs.Determined.{IsIn}
 use Rattle.core_steps.specs.Laws.{GoesOn, NeverStuck}
 use Rattle.core_steps.proofs.Order.{before_irreflexive, before_transitive, before_total}
@@ -24,7 +24,7 @@ NotBefore p x = HasOutcome x ⊎ (Before x.state.path p → ⊥)
 -- a thread that has not ended, and none before it that has not
 record Least (ts : List Thread) : Type 0 where
   pub first : Thread
-  pub found : thread_at ts first.state.path ≡ Some first
+  pub found : thread_by_path ts first.state.path ≡ Some first
   pub live : outcome_in first.state.phase ≡ None
   pub least : AllByRecursion (NotBefore first.state.path) ts
 
@@ -67,7 +67,7 @@ least_goes job never ts k l = go (awaits l.first.state) refl
     goes : GoesOn job l.first.state
     goes = never l.first.state.path l.first.events l.first.state ran l.live
 
-    fed : (b : List ℕ) → awaits l.first.state ≡ Some b → (u : Thread) → thread_at ts b ≡ Some u → NotBefore l.first.state.path u → Choice job ts l.first.state.path
+    fed : (b : List ℕ) → awaits l.first.state ≡ Some b → (u : Thread) → thread_by_path ts b ≡ Some u → NotBefore l.first.state.path u → Choice job ts l.first.state.path
     fed b a u e (inl h) =
         let x = goes.fed b h.0 a (u.events, u.state, k.ran b u e, ended_phase u.state.phase h.0 h.1) in
         record { thread = l.first; outcome = Some h.0; move = x.0; found = l.found; given = ap (handed ts) a ∙ given_ended ts b u h.0 e h.1; steps = x.1 }

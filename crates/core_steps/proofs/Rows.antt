@@ -2,7 +2,7 @@
 use Rattle.std.proofs.Common.{◌≡◌, ℕ, List, [], ◌∷◌, length, Some, refl}
 use Rattle.std.specs.Prelude.{ℤ, pos, negsuc}
 use Rattle.std.specs.Option.{option_and_then}
-use Rattle.priml_syntax.specs.Tree.{int, var, number, binary, Code, block, bind, give, spawn, sync, call, input}
+use Rattle.priml_syntax.specs.Tree.{int, var, number, binary, Code, block, bind, ret_tail, spawn, sync, call, input}
 use Rattle.priml_syntax.specs.Values.{unit_value, int_value, left_value, right_value, returned, faulted, Entry}
 use Rattle.priml_syntax.specs.declared.value.FaultKind.TheVariants.{Overflow}
 use Rattle.priml_syntax.specs.declared.event.Event.TheVariants.{Start, Spawn, Join, Read, End}
@@ -18,7 +18,7 @@ one_main b ins = record { program = record { names = []; declared = []; procs = 
 
 -- one thread joined twice
 abbrev twice : Code
-twice = block 0 (bind 0 (spawn (Const 0) (block 0 (give 0 (number 0 (pos 3))))) (bind 0 (sync 0) (bind 0 (sync 0) (give 0 (binary 0 Add (var 0 1) (var 0 2))))))
+twice = block 0 (bind 0 (spawn (Const 0) (block 0 (ret_tail 0 (number 0 (pos 3))))) (bind 0 (sync 0) (bind 0 (sync 0) (ret_tail 0 (binary 0 Add (var 0 1) (var 0 2))))))
 
 abbrev twice_records : List Entry
 twice_records =
@@ -36,7 +36,7 @@ row_twice_choices = refl
 
 -- a fault that is joined: 4 events and 2
 abbrev overflows : Code
-overflows = block 0 (bind 0 (spawn (Const 0) (block 0 (give 0 (binary 0 Add (number 0 (pos 9223372036854775807)) (number 0 (pos 1)))))) (bind 0 (sync 0) (give 0 (var 0 1))))
+overflows = block 0 (bind 0 (spawn (Const 0) (block 0 (ret_tail 0 (binary 0 Add (number 0 (pos 9223372036854775807)) (number 0 (pos 1)))))) (bind 0 (sync 0) (ret_tail 0 (var 0 1))))
 
 row_overflow : meaning (one_main overflows []) 6 ≡ Finished (
     record { path = 0 ∷ []; prio = 0; events = Start ∷ Spawn ∷ Join (0 ∷ 0 ∷ []) ∷ End ∷ []; outcome = faulted Overflow } ∷
@@ -45,7 +45,7 @@ row_overflow = refl
 
 -- each thread reads its own list
 abbrev reads : Code
-reads = block 0 (bind 0 input (bind 0 input (bind 0 (spawn (Const 0) (block 0 (bind 0 input (give 0 (var 0 2))))) (bind 0 input (give 0 (var 0 3))))))
+reads = block 0 (bind 0 input (bind 0 input (bind 0 (spawn (Const 0) (block 0 (bind 0 input (ret_tail 0 (var 0 2))))) (bind 0 input (ret_tail 0 (var 0 3))))))
 
 row_reads : meaning (one_main reads (((0 ∷ []), pos 5 ∷ pos 6 ∷ []) ∷ ((0 ∷ 0 ∷ []), pos 9 ∷ []) ∷ [])) 100 ≡ Finished (
     record { path = 0 ∷ []; prio = 0; events = Start ∷ Read ∷ Read ∷ Spawn ∷ Read ∷ End ∷ []; outcome = returned (left_value unit_value) } ∷
@@ -67,8 +67,8 @@ deep = record {
   program = record {
     names = [];
     declared = [];
-    procs = record { at = 0; declares = record { vars = 0; given = []; params = int ∷ []; own = Const 0; gives = int }; body = block 0 (bind 0 (spawn (Const 0) (block 0 (bind 0 (call 0 [] (binary 0 Add (var 0 0) (number 0 (pos 1)) ∷ [])) (give 0 (var 0 1))))) (bind 0 (sync 1) (give 0 (var 0 2)))) } ∷ [];
-    mains = record { at = 0; declares = record { vars = 0; given = []; params = []; own = Const 0; gives = int }; body = block 0 (bind 0 (call 0 [] (number 0 (pos 0) ∷ [])) (give 0 (var 0 0))) } ∷ [];
+    procs = record { at = 0; declares = record { vars = 0; given = []; params = int ∷ []; own = Const 0; gives = int }; body = block 0 (bind 0 (spawn (Const 0) (block 0 (bind 0 (call 0 [] (binary 0 Add (var 0 0) (number 0 (pos 1)) ∷ [])) (ret_tail 0 (var 0 1))))) (bind 0 (sync 1) (ret_tail 0 (var 0 2)))) } ∷ [];
+    mains = record { at = 0; declares = record { vars = 0; given = []; params = []; own = Const 0; gives = int }; body = block 0 (bind 0 (call 0 [] (number 0 (pos 0) ∷ [])) (ret_tail 0 (var 0 0))) } ∷ [];
   };
   inputs = [];
 }

@@ -4,7 +4,7 @@ use Rattle.std.specs.Prelude.{slice_get}
 use Rattle.std.specs.Option.{option_and_then}
 use Rattle.std.proofs.Math.Path.{fun_ext}
 use Rattle.priml_syntax.specs.declared.event.Event.TheVariants.{Plain, Spawn, Join, Read, Wrote}
-use Rattle.priml_syntax.specs.Tree.{Body, bind, give, branch, split, ret, spawn, sync, call, run, input, output, inside, Routine, Tree}
+use Rattle.priml_syntax.specs.Tree.{Body, bind, ret_tail, if_tail, case_tail, ret, spawn, sync, call, do_block, input, output, inside, Routine, Tree}
 use Rattle.priml_syntax.specs.Values.{Value', unit_value, bool_value, thread_value, faulted, Entry}
 use Rattle.priml_syntax.specs.declared.value.FaultKind.TheVariants.{Depth}
 use Rattle.priml_syntax.specs.Paths.{child_path}
@@ -26,10 +26,10 @@ module _ (p : Tree) (i j : List (List ℕ × List ℤ)) (same : (path : List ℕ
   -- a block gives the same where what follows it does
   block_same : (d : ℕ) → eval (with_inputs p i) d ≡ eval (with_inputs p j) d → (h : Here) (done : List Entry) (c : Body) (scope : List Value') (ps : List ℕ) →
       eval (with_inputs p i) (suc d) h done c scope ps ≡ eval (with_inputs p j) (suc d) h done c scope ps
-  block_same d is h done (give at e) scope ps = refl
-  block_same d is h done (branch at e x y) scope ps =
+  block_same d is h done (ret_tail at e) scope ps = refl
+  block_same d is h done (if_tail at e x y) scope ps =
       ap (λ (f : Eval). with_value h done (result_of scope e) (λ v. elim v [ bool_value c ↦ elim c [ true ↦ f (noted h Plain) done (inside x) scope ps | false ↦ f (noted h Plain) done (inside y) scope ps ] | _ ↦ Out ])) is
-  block_same d is h done (split at e x y) scope ps =
+  block_same d is h done (case_tail at e x y) scope ps =
       ap (λ (f : Eval). with_value h done (result_of scope e) (λ v. cased v (λ w. f (noted h Plain) done (inside x) (scope ++ w ∷ []) ps) (λ w. f (noted h Plain) done (inside y) (scope ++ w ∷ []) ps))) is
   block_same d is h done (bind at (ret e) k) scope ps = ap (λ (f : Eval). with_value h done (result_of scope e) (λ v. f (noted h Plain) done k (scope ++ v ∷ []) ps)) is
   block_same d is h done (bind at (spawn q x) k) scope ps =
@@ -40,7 +40,7 @@ module _ (p : Tree) (i j : List (List ℕ × List ℤ)) (same : (path : List ℕ
   block_same d is h done (bind at (sync x) k) scope ps = ap (λ (f : Eval). synced h done (thread_in (slice_get scope x)) (λ b v. f (noted h (Join b)) done k (scope ++ v ∷ []) ps)) is
   block_same d is h done (bind at (call g qs es) k) scope ps =
       ap (λ (f : Eval). with_values h done (results_of scope es) (λ vs. called (slice_get p.procs g) (λ r. after_block (f (noted h Plain) done (inside r.body) vs (map (prio_of ps) qs)) (λ w h' done'. f (noted h' Plain) done' k (scope ++ w ∷ []) ps)))) is
-  block_same d is h done (bind at (run x) k) scope ps = ap (λ (f : Eval). after_block (f (noted h Plain) done (inside x) scope ps) (λ w h' done'. f (noted h' Plain) done' k (scope ++ w ∷ []) ps)) is
+  block_same d is h done (bind at (do_block x) k) scope ps = ap (λ (f : Eval). after_block (f (noted h Plain) done (inside x) scope ps) (λ w h' done'. f (noted h' Plain) done' k (scope ++ w ∷ []) ps)) is
   block_same d is h done (bind at input k) scope ps =
       ap₂ (λ (f : Eval) (l : List ℤ). drawn (slice_get l h.reads) (λ v n. f (record h { reads = h.reads + n; events = h.events ++ Read ∷ [] }) done k (scope ++ v ∷ []) ps)) is (same h.path)
   block_same d is h done (bind at (output e) k) scope ps = ap (λ (f : Eval). with_value h done (result_of scope e) (λ v. written v (λ z. f (noted h (Wrote z)) done k (scope ++ unit_value ∷ []) ps))) is

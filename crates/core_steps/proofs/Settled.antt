@@ -7,11 +7,11 @@ use Rattle.std.proofs.lemmas.List.Elements.{All-head, All-tail}
 use Rattle.priml_syntax.specs.declared.prio.Prio.{Prio}
 use Rattle.priml_syntax.specs.declared.prio.Prio.TheVariants.{Const, Var}
 use Rattle.priml_syntax.specs.Tree.{Type', unit, bool, int, pair, sum, thread, Constraint}
-use Rattle.priml_syntax.specs.Scoped.{Scope, PrioIn, PriosIn, TypeIn, Written}
+use Rattle.priml_syntax.specs.Scoped.{NameCounts, PrioIn, PriosIn, TypeIn, Written}
 use Rattle.priority_order.specs.Order.{AtMost}
 use Rattle.priority_order.proofs.Paths as order
 use Rattle.constraint_proof.specs.Entailed.{Entailed, by_declared, by_assumed, by_reflexive, by_transitive}
-use Rattle.type_rules.specs.Typing.{at_prios, type_at}
+use Rattle.type_rules.specs.Typing.{subst_prio, subst_type}
 use Rattle.core_steps.specs.Steps.{Job, prio_of}
 use Rattle.core_steps.proofs.Typed.{AreDeclared, Meets, scope_at, settled}
 
@@ -28,11 +28,11 @@ entailed_meets pairs given ps (by_reflexive {p = p}) m = order.reflexive pairs (
 entailed_meets pairs given ps (by_transitive {p = p} {q = q} {r = r} x y) m = order.transitive pairs (prio_of ps p) (prio_of ps q) (prio_of ps r) (entailed_meets pairs given ps x m) (entailed_meets pairs given ps y m)
 
 -- a callee's priority at the call's priorities, and then at the caller's
-pub prio_settled : (s : Scope) (ps : List ℕ) (qs : List Prio) (p : Prio) → s.vars ≡ length qs → PrioIn s p → prio_of ps (at_prios qs p) ≡ prio_of (map (prio_of ps) qs) p
+pub prio_settled : (s : NameCounts) (ps : List ℕ) (qs : List Prio) (p : Prio) → s.vars ≡ length qs → PrioIn s p → prio_of ps (subst_prio qs p) ≡ prio_of (map (prio_of ps) qs) p
 prio_settled s ps qs (Const a) e h = refl
 prio_settled s ps qs (Var v) e h = sym (get_or-map (prio_of ps) qs v (Var v) 0 (omega (arith, e, h)))
 
-pub type_settled : (s : Scope) (ps : List ℕ) (qs : List Prio) (t : Type') → s.vars ≡ length qs → TypeIn s t → settled ps (type_at qs t) ≡ settled (map (prio_of ps) qs) t
+pub type_settled : (s : NameCounts) (ps : List ℕ) (qs : List Prio) (t : Type') → s.vars ≡ length qs → TypeIn s t → settled ps (subst_type qs t) ≡ settled (map (prio_of ps) qs) t
 type_settled s ps qs unit e h = refl
 type_settled s ps qs bool e h = refl
 type_settled s ps qs int e h = refl
@@ -40,17 +40,17 @@ type_settled s ps qs (pair a b) e h = ap₂ pair (type_settled s ps qs a e h.0) 
 type_settled s ps qs (sum a b) e h = ap₂ sum (type_settled s ps qs a e h.0) (type_settled s ps qs b e h.1)
 type_settled s ps qs (thread p a) e h = ap₂ (λ x y. thread (Const x) y) (prio_settled s ps qs p e h.0) (type_settled s ps qs a e h.1)
 
-pub types_settled : (s : Scope) (ps : List ℕ) (qs : List Prio) (ts : List Type') → s.vars ≡ length qs → All (Written s) ts → map (settled ps) (map (type_at qs) ts) ≡ map (settled (map (prio_of ps) qs)) ts
+pub types_settled : (s : NameCounts) (ps : List ℕ) (qs : List Prio) (ts : List Type') → s.vars ≡ length qs → All (Written s) ts → map (settled ps) (map (subst_type qs) ts) ≡ map (settled (map (prio_of ps) qs)) ts
 types_settled s ps qs [] e h = refl
 types_settled s ps qs (t ∷ ts) e h = ap₂ (λ x xs. x ∷ xs) (type_settled s ps qs t e (All-head (Written s) t ts h).0) (types_settled s ps qs ts e (All-tail (Written s) t ts h))
 
 -- a callee's constraints are met, where they are entailed at the call's priorities
-pub meets_at : (s : Scope) (pairs : List (ℕ × ℕ)) (given : List Constraint) (ps : List ℕ) (qs : List Prio) → Meets pairs ps given → s.vars ≡ length qs → (wanted : List Constraint) → All (λ (c : Constraint). PrioIn s c.0 × PrioIn s c.1) wanted → All (λ (c : Constraint). Entailed pairs given (at_prios qs c.0) (at_prios qs c.1)) wanted → Meets pairs (map (prio_of ps) qs) wanted
+pub meets_at : (s : NameCounts) (pairs : List (ℕ × ℕ)) (given : List Constraint) (ps : List ℕ) (qs : List Prio) → Meets pairs ps given → s.vars ≡ length qs → (wanted : List Constraint) → All (λ (c : Constraint). PrioIn s c.0 × PrioIn s c.1) wanted → All (λ (c : Constraint). Entailed pairs given (subst_prio qs c.0) (subst_prio qs c.1)) wanted → Meets pairs (map (prio_of ps) qs) wanted
 meets_at s pairs given ps qs m e [] i h = tt
 meets_at s pairs given ps qs m e (c ∷ cs) i h =
     let near = All-head (λ (c : Constraint). PrioIn s c.0 × PrioIn s c.1) c cs i in (
-      subst₂ (AtMost pairs) (prio_settled s ps qs c.0 e near.0) (prio_settled s ps qs c.1 e near.1) (entailed_meets pairs given ps (All-head (λ (c : Constraint). Entailed pairs given (at_prios qs c.0) (at_prios qs c.1)) c cs h) m),
-      meets_at s pairs given ps qs m e cs (All-tail (λ (c : Constraint). PrioIn s c.0 × PrioIn s c.1) c cs i) (All-tail (λ (c : Constraint). Entailed pairs given (at_prios qs c.0) (at_prios qs c.1)) c cs h),
+      subst₂ (AtMost pairs) (prio_settled s ps qs c.0 e near.0) (prio_settled s ps qs c.1 e near.1) (entailed_meets pairs given ps (All-head (λ (c : Constraint). Entailed pairs given (subst_prio qs c.0) (subst_prio qs c.1)) c cs h) m),
+      meets_at s pairs given ps qs m e cs (All-tail (λ (c : Constraint). PrioIn s c.0 × PrioIn s c.1) c cs i) (All-tail (λ (c : Constraint). Entailed pairs given (subst_prio qs c.0) (subst_prio qs c.1)) c cs h),
     )
 
 index_declared : (job : Job) (ps : List ℕ) (v : ℕ) → AreDeclared job ps → v < length ps → slice_index ps v < length job.program.names

@@ -10,7 +10,7 @@ use Rattle.priml_syntax.specs.declared.event.Event.TheVariants.{Start, Plain, Sp
 use Rattle.priml_syntax.specs.declared.prio.Prio.{Prio}
 use Rattle.priml_syntax.specs.declared.value.FaultKind.{FaultKind}
 use Rattle.priml_syntax.specs.declared.value.FaultKind.TheVariants.{Depth}
-use Rattle.priml_syntax.specs.Tree.{Term, Code, Body, bind, give, branch, split, ret, spawn, sync, call, run, input, output, inside, Routine}
+use Rattle.priml_syntax.specs.Tree.{Term, Code, Body, bind, ret_tail, if_tail, case_tail, ret, spawn, sync, call, do_block, input, output, inside, Routine}
 use Rattle.priml_syntax.specs.Values.{Value', unit_value, bool_value, int_value, left_value, right_value, thread_value, Outcome', returned, faulted, Entry}
 use Rattle.priml_syntax.specs.Paths.{child_path}
 use Rattle.priml_syntax.specs.Records.{Each, In}
@@ -62,7 +62,7 @@ pub record GivesBack (job : Job) (h : Here) (fs : List Frame) (v : Value') : Typ
   pub term : Term
   pub scope : List Value'
   pub prios : List ℕ
-  pub ran : Ran job h.path h.events (state_at h (give place term) scope prios fs)
+  pub ran : Ran job h.path h.events (state_at h (ret_tail place term) scope prios fs)
   pub gives : result_of scope term ≡ Some (returned v)
 
 -- the thread is about to end with the fault
@@ -155,29 +155,29 @@ module _ (job : Job) (d : ℕ) (ih : Simulates job d) (h : Here) (done : List En
 
 -- the endings and actions that evaluate no other block before what is left
 module _ (job : Job) (d : ℕ) (ih : Simulates job d) (h : Here) (done : List Entry) (scope : List Value') (ps : List ℕ) (fs : List Frame) (t : IsTable job h done) (n : OfScope (HasRecord done) scope) where
-  give_case : (at : ℕ) (e : Term) → Ran job h.path h.events (state_at h (give at e) scope ps fs) → (o : Option Outcome') → result_of scope e ≡ o → OfGiven (HasRecord done) o →
+  give_case : (at : ℕ) (e : Term) → Ran job h.path h.events (state_at h (ret_tail at e) scope ps fs) → (o : Option Outcome') → result_of scope e ≡ o → OfGiven (HasRecord done) o →
       IsResult job h done fs (suc d) (with_value h done o (λ v. Back (returned v) h done))
-  give_case at e ran None q m = stuck job d h done (give at e) scope ps fs ran t refl (ap (λ z. with_result (state_at h (give at e) scope ps fs) z (back_to (state_at h (give at e) scope ps fs) fs)) q)
-  give_case at e ran (Some (faulted x)) q m = fault_here job d h done (give at e) scope ps fs ran t refl x (ap (λ z. with_result (state_at h (give at e) scope ps fs) z (back_to (state_at h (give at e) scope ps fs) fs)) q)
+  give_case at e ran None q m = stuck job d h done (ret_tail at e) scope ps fs ran t refl (ap (λ z. with_result (state_at h (ret_tail at e) scope ps fs) z (back_to (state_at h (ret_tail at e) scope ps fs) fs)) q)
+  give_case at e ran (Some (faulted x)) q m = fault_here job d h done (ret_tail at e) scope ps fs ran t refl x (ap (λ z. with_result (state_at h (ret_tail at e) scope ps fs) z (back_to (state_at h (ret_tail at e) scope ps fs) fs)) q)
   give_case at e ran (Some (returned v)) q m = record { path = refl; longer = omega arith; grows = stay done; table = t; names = m; about = record { place = at; term = e; scope = scope; prios = ps; ran = ran; gives = q } }
 
-  branch_case : (at : ℕ) (e : Term) (a b : Code) → Ran job h.path h.events (state_at h (branch at e a b) scope ps fs) → IsResult job h done fs (suc d) (eval job (suc d) h done (branch at e a b) scope ps)
-  branch_case at e a b ran = value_case job d h done (branch at e a b) scope ps fs ran t refl (result_of scope e) _ _ refl (result_names (HasRecord done) scope e n) (λ v m w. go_on v w)
+  branch_case : (at : ℕ) (e : Term) (a b : Code) → Ran job h.path h.events (state_at h (if_tail at e a b) scope ps fs) → IsResult job h done fs (suc d) (eval job (suc d) h done (if_tail at e a b) scope ps)
+  branch_case at e a b ran = value_case job d h done (if_tail at e a b) scope ps fs ran t refl (result_of scope e) _ _ refl (result_names (HasRecord done) scope e n) (λ v m w. go_on v w)
     where
-      go_on : (v : Value') → step job (state_at h (branch at e a b) scope ps fs) None ≡ if_step (state_at h (branch at e a b) scope ps fs) (record { code = branch at e a b; scope = scope; prios = ps }) fs a b v →
+      go_on : (v : Value') → step job (state_at h (if_tail at e a b) scope ps fs) None ≡ if_step (state_at h (if_tail at e a b) scope ps fs) (record { code = if_tail at e a b; scope = scope; prios = ps }) fs a b v →
           IsResult job h done fs (suc d) (elim v [ bool_value c ↦ elim c [ true ↦ eval job d (noted h Plain) done (inside a) scope ps | false ↦ eval job d (noted h Plain) done (inside b) scope ps ] | _ ↦ Out ])
-      go_on (bool_value true) w = moves_on job d ih h done (branch at e a b) scope ps fs ran t refl Plain (inside a) scope w n
-      go_on (bool_value false) w = moves_on job d ih h done (branch at e a b) scope ps fs ran t refl Plain (inside b) scope w n
-      go_on v w = stuck job d h done (branch at e a b) scope ps fs ran t refl w
+      go_on (bool_value true) w = moves_on job d ih h done (if_tail at e a b) scope ps fs ran t refl Plain (inside a) scope w n
+      go_on (bool_value false) w = moves_on job d ih h done (if_tail at e a b) scope ps fs ran t refl Plain (inside b) scope w n
+      go_on v w = stuck job d h done (if_tail at e a b) scope ps fs ran t refl w
 
-  split_case : (at : ℕ) (e : Term) (a b : Code) → Ran job h.path h.events (state_at h (split at e a b) scope ps fs) → IsResult job h done fs (suc d) (eval job (suc d) h done (split at e a b) scope ps)
-  split_case at e a b ran = value_case job d h done (split at e a b) scope ps fs ran t refl (result_of scope e) _ _ refl (result_names (HasRecord done) scope e n) go_on
+  split_case : (at : ℕ) (e : Term) (a b : Code) → Ran job h.path h.events (state_at h (case_tail at e a b) scope ps fs) → IsResult job h done fs (suc d) (eval job (suc d) h done (case_tail at e a b) scope ps)
+  split_case at e a b ran = value_case job d h done (case_tail at e a b) scope ps fs ran t refl (result_of scope e) _ _ refl (result_names (HasRecord done) scope e n) go_on
     where
-      go_on : (v : Value') → OfValue (HasRecord done) v → step job (state_at h (split at e a b) scope ps fs) None ≡ case_step (state_at h (split at e a b) scope ps fs) (record { code = split at e a b; scope = scope; prios = ps }) fs a b v →
+      go_on : (v : Value') → OfValue (HasRecord done) v → step job (state_at h (case_tail at e a b) scope ps fs) None ≡ case_step (state_at h (case_tail at e a b) scope ps fs) (record { code = case_tail at e a b; scope = scope; prios = ps }) fs a b v →
           IsResult job h done fs (suc d) (cased v (λ w. eval job d (noted h Plain) done (inside a) (scope ++ w ∷ []) ps) (λ w. eval job d (noted h Plain) done (inside b) (scope ++ w ∷ []) ps))
-      go_on (left_value v) m w = moves_on job d ih h done (split at e a b) scope ps fs ran t refl Plain (inside a) (scope ++ v ∷ []) w (scope_push (HasRecord done) scope v n m)
-      go_on (right_value v) m w = moves_on job d ih h done (split at e a b) scope ps fs ran t refl Plain (inside b) (scope ++ v ∷ []) w (scope_push (HasRecord done) scope v n m)
-      go_on v m w = stuck job d h done (split at e a b) scope ps fs ran t refl w
+      go_on (left_value v) m w = moves_on job d ih h done (case_tail at e a b) scope ps fs ran t refl Plain (inside a) (scope ++ v ∷ []) w (scope_push (HasRecord done) scope v n m)
+      go_on (right_value v) m w = moves_on job d ih h done (case_tail at e a b) scope ps fs ran t refl Plain (inside b) (scope ++ v ∷ []) w (scope_push (HasRecord done) scope v n m)
+      go_on v m w = stuck job d h done (case_tail at e a b) scope ps fs ran t refl w
 
   ret_case : (at : ℕ) (e : Term) (k : Body) → Ran job h.path h.events (state_at h (bind at (ret e) k) scope ps fs) → IsResult job h done fs (suc d) (eval job (suc d) h done (bind at (ret e) k) scope ps)
   ret_case at e k ran = value_case job d h done (bind at (ret e) k) scope ps fs ran t refl (result_of scope e) _ _ refl (result_names (HasRecord done) scope e n)
@@ -211,7 +211,7 @@ own o h = record { path = h.path; prio = h.prio; events = h.events ++ End ∷ []
 
 own_is : (job : Job) (h : Here) (o : Outcome') → IsAbout job h [] o → IsRecord job (own o h)
 own_is job h (returned v) a =
-    let s : State = state_at h (give a.place a.term) a.scope a.prios [] in
+    let s : State = state_at h (ret_tail a.place a.term) a.scope a.prios [] in
     record { state = record s { phase = Ended (returned v) }; ran = alone a.ran refl (ap (λ o. with_result s o (back_to s [])) a.gives) refl refl; ended = refl; prio = refl }
 own_is job h (faulted k) a = record { state = record a.state { phase = Ended (faulted k) }; ran = alone a.ran a.free a.ends refl refl; ended = refl; prio = a.prio }
 
@@ -313,12 +313,12 @@ module _ (job : Job) (d : ℕ) (ih : Simulates job d) (h : Here) (done : List En
   block_case k h1 e l (Back (faulted x) h' done') r = record { path = r.path ∙ e; longer = omega (arith, l, r.longer); grows = r.grows; table = r.table; names = tt; about = r.about }
   block_case k h1 e l (Back (returned w) h' done') r =
       let below : Frame = record { code = k; scope = scope; prios = ps } in
-      let s : State = state_at h' (give r.about.place r.about.term) r.about.scope r.about.prios (below ∷ fs) in
+      let s : State = state_at h' (ret_tail r.about.place r.about.term) r.about.scope r.about.prios (below ∷ fs) in
       later job h (noted h' Plain) done done' fs d (eval job d (noted h' Plain) done' k (scope ++ w ∷ []) ps) (r.path ∙ e) (omega (arith, l, r.longer, length_push h'.events Plain)) r.grows
       (ih (noted h' Plain) done' k (scope ++ w ∷ []) ps fs (alone r.about.ran refl (ap (λ o. with_result s o (back_to s (below ∷ fs))) r.about.gives) refl refl) (table_noted h' Plain done' r.table)
       (scope_push (HasRecord done') scope w (scope_map (HasRecord done) (HasRecord done') r.grows scope n) r.names))
 
-  run_case : (at : ℕ) (b : Code) (k : Body) → Ran job h.path h.events (state_at h (bind at (run b) k) scope ps fs) → IsResult job h done fs (suc d) (eval job (suc d) h done (bind at (run b) k) scope ps)
+  run_case : (at : ℕ) (b : Code) (k : Body) → Ran job h.path h.events (state_at h (bind at (do_block b) k) scope ps fs) → IsResult job h done fs (suc d) (eval job (suc d) h done (bind at (do_block b) k) scope ps)
   run_case at b k ran = block_case k (noted h Plain) refl (omega (arith, length_push h.events Plain)) (eval job d (noted h Plain) done (inside b) scope ps)
       (ih (noted h Plain) done (inside b) scope ps (record { code = k; scope = scope; prios = ps } ∷ fs) (alone ran refl refl refl refl) (table_noted h Plain done t) n)
 
@@ -336,14 +336,14 @@ out_of_fuel : (job : Job) → Simulates job zero
 out_of_fuel job h done c scope ps fs ran t n = λ never. long_here (state_at h c scope ps fs) (length h.events + zero) ran (omega arith)
 
 body_case : (job : Job) (d : ℕ) → Simulates job d → Simulates job (suc d)
-body_case job d ih h done (give at e) scope ps fs ran t n = give_case job d ih h done scope ps fs t n at e ran (result_of scope e) refl (result_names (HasRecord done) scope e n)
-body_case job d ih h done (branch at e a b) scope ps fs ran t n = branch_case job d ih h done scope ps fs t n at e a b ran
-body_case job d ih h done (split at e a b) scope ps fs ran t n = split_case job d ih h done scope ps fs t n at e a b ran
+body_case job d ih h done (ret_tail at e) scope ps fs ran t n = give_case job d ih h done scope ps fs t n at e ran (result_of scope e) refl (result_names (HasRecord done) scope e n)
+body_case job d ih h done (if_tail at e a b) scope ps fs ran t n = branch_case job d ih h done scope ps fs t n at e a b ran
+body_case job d ih h done (case_tail at e a b) scope ps fs ran t n = split_case job d ih h done scope ps fs t n at e a b ran
 body_case job d ih h done (bind at (ret e) k) scope ps fs ran t n = ret_case job d ih h done scope ps fs t n at e k ran
 body_case job d ih h done (bind at (spawn p b) k) scope ps fs ran t n = spawn_case job d ih h done scope ps fs t n at p b k ran (may_spawn h) refl
 body_case job d ih h done (bind at (sync x) k) scope ps fs ran t n = sync_case job d ih h done scope ps fs t n at x k ran (thread_in (slice_get scope x)) refl
 body_case job d ih h done (bind at (call f qs es) k) scope ps fs ran t n = call_case job d ih h done scope ps fs t n at f qs es k ran
-body_case job d ih h done (bind at (run b) k) scope ps fs ran t n = run_case job d ih h done scope ps fs t n at b k ran
+body_case job d ih h done (bind at (do_block b) k) scope ps fs ran t n = run_case job d ih h done scope ps fs t n at b k ran
 body_case job d ih h done (bind at input k) scope ps fs ran t n = input_case job d ih h done scope ps fs t n at k ran (slice_get (inputs_of job.inputs h.path) h.reads) refl
 body_case job d ih h done (bind at (output e) k) scope ps fs ran t n = output_case job d ih h done scope ps fs t n at e k ran
 

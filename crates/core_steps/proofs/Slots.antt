@@ -9,7 +9,7 @@ use Rattle.priml_syntax.specs.Paths.{same_path, Precedes}
 use Rattle.core_steps.specs.Fields.{LocalFields, Mode', fresh, running, failing, ended, phase_of, state_of}
 use Rattle.core_steps.specs.Locals.{ended_with}
 use Rattle.core_steps.specs.Steps.{Job, Phase, State, outcome_in}
-use Rattle.core_steps.specs.Config.{Thread, thread_at, IsFinished}
+use Rattle.core_steps.specs.Config.{Thread, thread_by_path, IsFinished}
 use Rattle.core_steps.specs.Configs.{SlotFields, thread_of, threads_from, slot_at, SlotsRise, AreKept, AreSlots, all_end}
 use Rattle.core_steps.proofs.StepLaws.{state_path, live_phase}
 use Rattle.core_steps.proofs.Standing.{ended_state}
@@ -126,12 +126,12 @@ BothFind p None (Some t) = ⊥
 BothFind p (Some s) None = ⊥
 BothFind p (Some s) (Some t) = Stands p s t
 
-pub both_find : (p : Tree) (ss : List SlotFields) (ts : List Thread) (q : List ℕ) → AllStand p ss ts → BothFind p (slot_at ss q) (thread_at ts q)
+pub both_find : (p : Tree) (ss : List SlotFields) (ts : List Thread) (q : List ℕ) → AllStand p ss ts → BothFind p (slot_at ss q) (thread_by_path ts q)
 both_find p [] [] q h = tt
 both_find p [] (t ∷ ts) q h = absurd h
 both_find p (s ∷ ss) [] q h = absurd h
-both_find p (s ∷ ss) (t ∷ ts) q h = subst (λ r. BothFind p (if same_path s.local.path q then Some s else slot_at ss q) (if same_path r q then Some t else thread_at ts q)) (path_stands p s t h.0) (go (same_path s.local.path q) (both_find p ss ts q h.1))
+both_find p (s ∷ ss) (t ∷ ts) q h = subst (λ r. BothFind p (if same_path s.local.path q then Some s else slot_at ss q) (if same_path r q then Some t else thread_by_path ts q)) (path_stands p s t h.0) (go (same_path s.local.path q) (both_find p ss ts q h.1))
   where
-    go : (b : Bool) → BothFind p (slot_at ss q) (thread_at ts q) → BothFind p (if b then Some s else slot_at ss q) (if b then Some t else thread_at ts q)
+    go : (b : Bool) → BothFind p (slot_at ss q) (thread_by_path ts q) → BothFind p (if b then Some s else slot_at ss q) (if b then Some t else thread_by_path ts q)
     go true k = h.0
     go false k = k

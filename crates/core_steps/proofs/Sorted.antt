@@ -4,7 +4,7 @@ use Rattle.std.specs.Prelude.{ℤ, slice_get}
 use Rattle.std.specs.Option.{option_and_then, IfSome}
 use Rattle.priml_syntax.specs.declared.event.Event.TheVariants.{Plain, Spawn, Join, Read, Wrote}
 use Rattle.priml_syntax.specs.declared.value.FaultKind.TheVariants.{Depth}
-use Rattle.priml_syntax.specs.Tree.{Code, Body, bind, give, branch, split, ret, spawn, sync, call, run, input, output, inside, Routine}
+use Rattle.priml_syntax.specs.Tree.{Code, Body, bind, ret_tail, if_tail, case_tail, ret, spawn, sync, call, do_block, input, output, inside, Routine}
 use Rattle.priml_syntax.specs.Values.{Value', unit_value, bool_value, int_value, left_value, right_value, thread_value, Outcome', returned, faulted, Entry}
 use Rattle.priml_syntax.specs.Paths.{child_path, path_lt, Precedes, Left}
 use Rattle.priml_syntax.specs.Records.{Each, InPathOrder}
@@ -117,14 +117,14 @@ module _ (job : Job) (d : ℕ) (ih : KeepsOrder job d) where
       (λ done' t'. ih (record h { children = h.children + 1; events = h.events ++ Spawn ∷ [] }) done' k (scope ++ thread_value (child_path h.path h.children) q ∷ []) ps t')
 
   body_order : KeepsOrder job (suc d)
-  body_order h done (give at e) scope ps t = value_order h done t (result_of scope e) _ (λ v. (refl, t))
-  body_order h done (branch at e a b) scope ps t = value_order h done t (result_of scope e) _ (branch_order h done a b scope ps t)
-  body_order h done (split at e a b) scope ps t = value_order h done t (result_of scope e) _ (λ v. cased_order h.path v _ _ (λ w. ih (noted h Plain) done (inside a) (scope ++ w ∷ []) ps t) (λ w. ih (noted h Plain) done (inside b) (scope ++ w ∷ []) ps t))
+  body_order h done (ret_tail at e) scope ps t = value_order h done t (result_of scope e) _ (λ v. (refl, t))
+  body_order h done (if_tail at e a b) scope ps t = value_order h done t (result_of scope e) _ (branch_order h done a b scope ps t)
+  body_order h done (case_tail at e a b) scope ps t = value_order h done t (result_of scope e) _ (λ v. cased_order h.path v _ _ (λ w. ih (noted h Plain) done (inside a) (scope ++ w ∷ []) ps t) (λ w. ih (noted h Plain) done (inside b) (scope ++ w ∷ []) ps t))
   body_order h done (bind at (ret e) k) scope ps t = value_order h done t (result_of scope e) _ (λ v. ih (noted h Plain) done k (scope ++ v ∷ []) ps t)
   body_order h done (bind at (spawn p b) k) scope ps t = spawn_order h done (prio_of ps p) b k scope ps t (may_spawn h)
   body_order h done (bind at (sync x) k) scope ps t = synced_order h done t (thread_in (slice_get scope x)) _ (λ b v. ih (noted h (Join b)) done k (scope ++ v ∷ []) ps t)
   body_order h done (bind at (call f qs es) k) scope ps t = values_order h done t (results_of scope es) _ (λ vs. called_order h.path (slice_get job.program.procs f) _ (λ g. block_order h.path _ _ (ih (noted h Plain) done (inside g.body) vs _ t) (λ w h' done' t'. ih (noted h' Plain) done' k (scope ++ w ∷ []) ps t')))
-  body_order h done (bind at (run b) k) scope ps t = block_order h.path _ _ (ih (noted h Plain) done (inside b) scope ps t) (λ w h' done' t'. ih (noted h' Plain) done' k (scope ++ w ∷ []) ps t')
+  body_order h done (bind at (do_block b) k) scope ps t = block_order h.path _ _ (ih (noted h Plain) done (inside b) scope ps t) (λ w h' done' t'. ih (noted h' Plain) done' k (scope ++ w ∷ []) ps t')
   body_order h done (bind at input k) scope ps t = drawn_order h.path (slice_get (inputs_of job.inputs h.path) h.reads) _ (λ v m. ih (record h { reads = h.reads + m; events = h.events ++ Read ∷ [] }) done k (scope ++ v ∷ []) ps t)
   body_order h done (bind at (output e) k) scope ps t = value_order h done t (result_of scope e) _ (λ v. written_order h.path v _ (λ z. ih (noted h (Wrote z)) done k (scope ++ unit_value ∷ []) ps t))
 

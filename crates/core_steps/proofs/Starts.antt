@@ -9,7 +9,7 @@ use Rattle.priml_syntax.specs.Tree.{Routine}
 use Rattle.priml_syntax.specs.Paths.{Precedes}
 use Rattle.priml_syntax.specs.Events.{spawns}
 use Rattle.core_steps.specs.Steps.{Job, Ran, root, root_state}
-use Rattle.core_steps.specs.Config.{Thread, thread_at, chosen, followed, roots_from, begin, Reached, ReachedIn}
+use Rattle.core_steps.specs.Config.{Thread, thread_by_path, chosen, followed, roots_from, begin, Reached, ReachedIn}
 use Rattle.core_steps.specs.Determined.{events_in, events_of, IsIn, steps_of, unended}
 use Rattle.core_steps.specs.Laws.{IsRoot, Starts}
 use Rattle.core_steps.proofs.Names.{OfPhase}
@@ -27,7 +27,7 @@ record IsRootOf (ms : List Routine) (k : ℕ) (p : List ℕ) (t : Thread) : Type
   pub path : p ≡ (k + i) ∷ []
   pub thread : t ≡ root_thread main (k + i)
 
-is_root : (ms : List Routine) (k : ℕ) (p : List ℕ) (t : Thread) → thread_at (roots_from ms k) p ≡ Some t → IsRootOf ms k p t
+is_root : (ms : List Routine) (k : ℕ) (p : List ℕ) (t : Thread) → thread_by_path (roots_from ms k) p ≡ Some t → IsRootOf ms k p t
 is_root [] k p t e = absurd (none-some t e)
 is_root (m ∷ ms) k p t e = elim (same_or_not (k ∷ []) p) [
   | inl s ↦ (let z : k ≡ k + 0 = omega arith in record { i = 0; main = m; got = refl; path = sym s ∙ ap (λ n. n ∷ []) z; thread = same_Some t (root_thread m k) (sym e ∙ found_first (root_thread m k) (roots_from ms (k + 1)) p s) ∙ ap (root_thread m) z })
@@ -53,9 +53,9 @@ roots_in_order (m ∷ ms) k = (later ms (k + 1) (omega arith), roots_in_order ms
     later (n ∷ ms) j l = (inl l, later ms (j + 1) (omega (arith, l)))
 
 no_events : (ms : List Routine) (k : ℕ) (p : List ℕ) → events_of (roots_from ms k) p ≡ []
-no_events ms k p = go (thread_at (roots_from ms k) p) refl
+no_events ms k p = go (thread_by_path (roots_from ms k) p) refl
   where
-    go : (o : Option Thread) → thread_at (roots_from ms k) p ≡ o → events_of (roots_from ms k) p ≡ []
+    go : (o : Option Thread) → thread_by_path (roots_from ms k) p ≡ o → events_of (roots_from ms k) p ≡ []
     go None e = ap events_in e
     go (Some t) e = ap events_in e ∙ ap (λ x. x.events) (is_root ms k p t e).thread
 
@@ -84,7 +84,7 @@ starts job = record {
 }
 
 -- the start is closed
-root_ran : (job : Job) (p : List ℕ) (t : Thread) → thread_at (begin job) p ≡ Some t → Ran job p t.events t.state
+root_ran : (job : Job) (p : List ℕ) (t : Thread) → thread_by_path (begin job) p ≡ Some t → Ran job p t.events t.state
 root_ran job p t e =
     let r = is_root job.program.mains 0 p t e in
     let z : 0 + r.i ≡ r.i = omega arith in

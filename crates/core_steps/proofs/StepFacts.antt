@@ -6,7 +6,7 @@ use Rattle.priml_syntax.specs.declared.event.Event.{Event}
 use Rattle.priml_syntax.specs.declared.event.Event.TheVariants.{Start, Plain, Spawn, Join, Read, Wrote, End}
 use Rattle.priml_syntax.specs.declared.prio.Prio.{Prio}
 use Rattle.priml_syntax.specs.declared.value.FaultKind.TheVariants.{Depth}
-use Rattle.priml_syntax.specs.Tree.{Code, Body, bind, give, branch, split, Act, ret, spawn, sync, call, run, input, output, inside, Routine}
+use Rattle.priml_syntax.specs.Tree.{Code, Body, bind, ret_tail, if_tail, case_tail, Act, ret, spawn, sync, call, do_block, input, output, inside, Routine}
 use Rattle.priml_syntax.specs.Values.{Value', bool_value, int_value, left_value, right_value, thread_value, Outcome', returned, faulted}
 use Rattle.priml_syntax.specs.Paths.{child_path}
 use Rattle.priml_syntax.specs.Events.{one_spawn, one_end}
@@ -116,15 +116,15 @@ act_facts job s t fs (ret e) k w = result_facts s (result_of t.scope e) _ (λ v.
 act_facts job s t fs (spawn p b) k w = spawn_facts s t fs p b k
 act_facts job s t fs (sync x) k w = sync_facts s t fs k (thread_in (slice_get t.scope x)) w
 act_facts job s t fs (call f ps es) k w = results_facts s (results_of t.scope es) _ (λ vs. call_facts s t fs k _ ps vs)
-act_facts job s t fs (run b) k w = plain_facts s None Plain _ refl refl refl
+act_facts job s t fs (do_block b) k w = plain_facts s None Plain _ refl refl refl
 act_facts job s t fs input k w = read_facts s t fs k (slice_get (inputs_of job.inputs s.path) s.reads)
 act_facts job s t fs (output e) k w = result_facts s (result_of t.scope e) _ (λ v. output_facts s t fs k v)
 
 code_facts : (job : Job) (s : State) (t : Frame) (fs : List Frame) (c : Body) (w : Option Outcome') → OnMoved s (awaits_code t c) (run_code job s t fs c w)
 code_facts job s t fs (bind at a k) w = act_facts job s t fs a k w
-code_facts job s t fs (give at e) w = result_facts s (result_of t.scope e) _ (λ v. back_facts s fs v)
-code_facts job s t fs (branch at e a b) w = result_facts s (result_of t.scope e) _ (λ v. if_facts s t fs a b v)
-code_facts job s t fs (split at e a b) w = result_facts s (result_of t.scope e) _ (λ v. case_facts s t fs a b v)
+code_facts job s t fs (ret_tail at e) w = result_facts s (result_of t.scope e) _ (λ v. back_facts s fs v)
+code_facts job s t fs (if_tail at e a b) w = result_facts s (result_of t.scope e) _ (λ v. if_facts s t fs a b v)
+code_facts job s t fs (case_tail at e a b) w = result_facts s (result_of t.scope e) _ (λ v. case_facts s t fs a b v)
 
 phase_facts : (job : Job) (s : State) (f : Phase) (w : Option Outcome') → OnMoved s (awaits_phase f) (phase_step job s f w)
 phase_facts job s (Fresh t) w = plain_facts s None Start _ refl refl refl

@@ -6,7 +6,7 @@ use Rattle.priml_syntax.specs.declared.event.Event.{Event}
 use Rattle.priml_syntax.specs.declared.event.Event.TheVariants.{Start, Plain, Spawn, Join, Read, Wrote, End}
 use Rattle.priml_syntax.specs.declared.prio.Prio.{Prio}
 use Rattle.priml_syntax.specs.declared.value.FaultKind.TheVariants.{Depth}
-use Rattle.priml_syntax.specs.Tree.{Code, Body, bind, give, branch, split, Act, ret, spawn, sync, call, run, input, output, inside, Routine}
+use Rattle.priml_syntax.specs.Tree.{Code, Body, bind, ret_tail, if_tail, case_tail, Act, ret, spawn, sync, call, do_block, input, output, inside, Routine}
 use Rattle.priml_syntax.specs.Values.{Value', unit_value, bool_value, int_value, left_value, right_value, thread_value, Outcome', returned, faulted}
 use Rattle.priml_syntax.specs.Paths.{child_path, Left, Before}
 use Rattle.priml_syntax.specs.Events.{one_spawn}
@@ -92,16 +92,16 @@ module _ (P : List ℕ → Type 0) (Q : Event → List ℕ → Type 0) (weaker :
   action_names job s t fs (spawn p x) k w a b h n = spawn_names s t fs p x k a b n
   action_names job s t fs (sync x) k w a b h n = sync_names s t fs k (thread_in (slice_get t.scope x)) w a b h
   action_names job s t fs (call f ps es) k w a b h n = with_all_names s (results_of t.scope es) _ (results_names P t.scope es a) (λ vs g. call_names s t fs k (slice_get job.program.procs f) ps vs a b g)
-  action_names job s t fs (run x) k w a b h n = (run_names Plain (record { code = inside x; scope = t.scope; prios = t.prios }) (record { code = k; scope = t.scope; prios = t.prios } ∷ fs) a (a, b), tt)
+  action_names job s t fs (do_block x) k w a b h n = (run_names Plain (record { code = inside x; scope = t.scope; prios = t.prios }) (record { code = k; scope = t.scope; prios = t.prios } ∷ fs) a (a, b), tt)
   action_names job s t fs input k w a b h n = read_names s t fs k (slice_get (inputs_of job.inputs s.path) s.reads) a b
   action_names job s t fs (output e) k w a b h n = with_names s (result_of t.scope e) _ (result_names P t.scope e a) (λ v g. output_names s t fs k v a b)
 
   code_names : (job : Job) (s : State) (t : Frame) (fs : List Frame) (c : Body) (w : Option Outcome') → OfScope P t.scope → OfFrames P fs →
       ((b : List ℕ) → awaits_code t c ≡ Some b → OfGiven (Q (Join b)) w) → Q Spawn (child_path s.path s.children) → After P Q (run_code job s t fs c w)
   code_names job s t fs (bind at x k) w a b h n = action_names job s t fs x k w a b h n
-  code_names job s t fs (give at e) w a b h n = with_names s (result_of t.scope e) _ (result_names P t.scope e a) (λ v g. back_names s fs v b g)
-  code_names job s t fs (branch at e x y) w a b h n = with_names s (result_of t.scope e) _ (result_names P t.scope e a) (λ v g. if_names s t fs x y v a b)
-  code_names job s t fs (split at e x y) w a b h n = with_names s (result_of t.scope e) _ (result_names P t.scope e a) (λ v g. case_names s t fs x y v a b g)
+  code_names job s t fs (ret_tail at e) w a b h n = with_names s (result_of t.scope e) _ (result_names P t.scope e a) (λ v g. back_names s fs v b g)
+  code_names job s t fs (if_tail at e x y) w a b h n = with_names s (result_of t.scope e) _ (result_names P t.scope e a) (λ v g. if_names s t fs x y v a b)
+  code_names job s t fs (case_tail at e x y) w a b h n = with_names s (result_of t.scope e) _ (result_names P t.scope e a) (λ v g. case_names s t fs x y v a b g)
 
   phase_names : (job : Job) (s : State) (f : Phase) (w : Option Outcome') → OfPhase P f → ((b : List ℕ) → awaits_phase f ≡ Some b → OfGiven (Q (Join b)) w) → Q Spawn (child_path s.path s.children) → After P Q (phase_step job s f w)
   phase_names job s (Fresh t) w a h n = (run_names Start t [] a tt, tt)

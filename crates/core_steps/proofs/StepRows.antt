@@ -10,7 +10,7 @@ use Rattle.priml_syntax.specs.declared.event.Event.TheVariants.{Plain, Spawn, Jo
 use Rattle.priml_syntax.specs.declared.prio.Prio.{Prio}
 use Rattle.priml_syntax.specs.declared.value.FaultKind.{FaultKind}
 use Rattle.priml_syntax.specs.Inputs.{inputs_of}
-use Rattle.priml_syntax.specs.Tree.{Term, Code, Body, bind, ret, spawn, sync, call, run, input, output, Routine}
+use Rattle.priml_syntax.specs.Tree.{Term, Code, Body, bind, ret, spawn, sync, call, do_block, input, output, Routine}
 use Rattle.priml_syntax.specs.Values.{Value', unit_value, int_value, left_value, right_value, thread_value, Outcome', returned, faulted}
 use Rattle.core_steps.specs.declared.place.Turn.{Turn}
 use Rattle.core_steps.specs.declared.place.Turn.TheVariants.{Bind as At}
@@ -168,8 +168,8 @@ module _ (job : Job) (l : LocalFields) where
       not_stuck job l (Some o) c can mode body (λ fs. ap (λ q. sync_step (in_phase l (Run (opened_at l.top c) fs)) (opened_at l.top c) fs k q (Some o)) names)
 
   -- a block is entered
-  pub block_row : (b : Code) → CanStep job l None → l.mode ≡ running → IsNext job.program l.top (run b) → Goes job l None Plain None (record l { top = within_frame l.top (At l.top.done); below = l.below ++ past l.top ∷ [] })
-  block_row b can mode (at, k, body) = runs_block job l None at b k (stands job l None (bind at (run b) k) can mode body) mode body
+  pub block_row : (b : Code) → CanStep job l None → l.mode ≡ running → IsNext job.program l.top (do_block b) → Goes job l None Plain None (record l { top = within_frame l.top (At l.top.done); below = l.below ++ past l.top ∷ [] })
+  block_row b can mode (at, k, body) = runs_block job l None at b k (stands job l None (bind at (do_block b) k) can mode body) mode body
 
   -- a thread is spawned
   pub spawn_row : (q : Prio) (b : Code) → CanStep job l None → l.mode ≡ running → IsNext job.program l.top (spawn q b) → length l.path < 32 → l.children < 4294967295 → Goes job l None Spawn (Some (child_of l (prio_of l.top.prios q))) (after_spawn l q)

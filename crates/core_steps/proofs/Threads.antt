@@ -5,7 +5,7 @@ use Rattle.std.proofs.lemmas.Option.{same_Some, none-some}
 use Rattle.priml_syntax.specs.Paths.{same_path, path_lt, Precedes}
 use Rattle.priml_syntax.proofs.Orders.{irreflexive, transitive, Told, told, same_path_is, same_path_refl, same_path_not}
 use Rattle.core_steps.specs.Steps.{outcome_in}
-use Rattle.core_steps.specs.Config.{Thread, thread_at, put, added}
+use Rattle.core_steps.specs.Config.{Thread, thread_by_path, put, added}
 use Rattle.core_steps.specs.Determined.{steps_of, one_live, unended}
 
 -- what holds of each element may be weakened
@@ -27,14 +27,14 @@ same_or_not p q = go (same_path p q) refl
     go false e = inr (λ s. let z : same_path p q ≡ true = rw s (same_path_refl q) in let w : true ≡ false = sym z ∙ e in cc)
 
 -- the head where it has the path, else what is found behind it
-pub found_first : (x : Thread) (ts : List Thread) (p : List ℕ) → x.state.path ≡ p → thread_at (x ∷ ts) p ≡ Some x
+pub found_first : (x : Thread) (ts : List Thread) (p : List ℕ) → x.state.path ≡ p → thread_by_path (x ∷ ts) p ≡ Some x
 found_first x ts p e = let z : same_path x.state.path p ≡ true = subst (λ q. same_path x.state.path q ≡ true) e (same_path_refl x.state.path) in rw z refl
 
-pub found_behind : (x : Thread) (ts : List Thread) (p : List ℕ) → x.state.path ≢ p → thread_at (x ∷ ts) p ≡ thread_at ts p
+pub found_behind : (x : Thread) (ts : List Thread) (p : List ℕ) → x.state.path ≢ p → thread_by_path (x ∷ ts) p ≡ thread_by_path ts p
 found_behind x ts p n = rw (same_path_not x.state.path p n) refl
 
 -- the thread that a path finds has it
-pub found_path : (ts : List Thread) (p : List ℕ) (t : Thread) → thread_at ts p ≡ Some t → t.state.path ≡ p
+pub found_path : (ts : List Thread) (p : List ℕ) (t : Thread) → thread_by_path ts p ≡ Some t → t.state.path ≡ p
 found_path [] p t e = absurd (none-some t e)
 found_path (x ∷ ts) p t e = elim (same_or_not x.state.path p) [
   | inl s ↦ subst (λ z. z.state.path ≡ p) (same_Some x t (sym (found_first x ts p s) ∙ e)) s
@@ -42,7 +42,7 @@ found_path (x ∷ ts) p t e = elim (same_or_not x.state.path p) [
 ]
 
 -- what holds of each thread holds of those that are found
-pub each_found : (P : Thread → Type 0) (ts : List Thread) (p : List ℕ) (t : Thread) → AllByRecursion P ts → thread_at ts p ≡ Some t → P t
+pub each_found : (P : Thread → Type 0) (ts : List Thread) (p : List ℕ) (t : Thread) → AllByRecursion P ts → thread_by_path ts p ≡ Some t → P t
 each_found P [] p t a e = absurd (none-some t e)
 each_found P (x ∷ ts) p t a e = elim (same_or_not x.state.path p) [
   | inl s ↦ subst P (same_Some x t (sym (found_first x ts p s) ∙ e)) a.0
@@ -50,51 +50,51 @@ each_found P (x ∷ ts) p t a e = elim (same_or_not x.state.path p) [
 ]
 
 -- a thread behind the head is found behind it, where the head stands before each
-pub found_later : (x : Thread) (ts : List Thread) (p : List ℕ) (t : Thread) → AllByRecursion (λ y. Precedes x.state.path y.state.path) ts → thread_at ts p ≡ Some t → thread_at (x ∷ ts) p ≡ Some t
+pub found_later : (x : Thread) (ts : List Thread) (p : List ℕ) (t : Thread) → AllByRecursion (λ y. Precedes x.state.path y.state.path) ts → thread_by_path ts p ≡ Some t → thread_by_path (x ∷ ts) p ≡ Some t
 found_later x ts p t a e =
     let l : Precedes x.state.path p = subst (Precedes x.state.path) (found_path ts p t e) (each_found (λ y. Precedes x.state.path y.state.path) ts p t a e) in
     found_behind x ts p (λ s. irreflexive p (subst (λ z. Precedes z p) s l)) ∙ e
 
 -- and, in a list in order, what holds of each thread that is found holds of each
-pub found_each : (P : Thread → Type 0) (ts : List Thread) → InOrder ts → ((p : List ℕ) (t : Thread) → thread_at ts p ≡ Some t → P t) → AllByRecursion P ts
+pub found_each : (P : Thread → Type 0) (ts : List Thread) → InOrder ts → ((p : List ℕ) (t : Thread) → thread_by_path ts p ≡ Some t → P t) → AllByRecursion P ts
 found_each P [] o f = tt
 found_each P (x ∷ ts) o f = (f x.state.path x (found_first x ts x.state.path refl), found_each P ts o.1 (λ p t e. f p t (found_later x ts p t o.0 e)))
 
 -- the thread that is put is found by its path, and the others as before
-pub put_found : (u t : Thread) (ts : List Thread) → thread_at ts u.state.path ≡ Some t → thread_at (put u ts) u.state.path ≡ Some u
+pub put_found : (u t : Thread) (ts : List Thread) → thread_by_path ts u.state.path ≡ Some t → thread_by_path (put u ts) u.state.path ≡ Some u
 put_found u t [] e = absurd (none-some t e)
 put_found u t (x ∷ ts) e = go (same_path x.state.path u.state.path) refl (put_found u t ts) e
   where
-    go : (b : Bool) → same_path x.state.path u.state.path ≡ b → (thread_at ts u.state.path ≡ Some t → thread_at (put u ts) u.state.path ≡ Some u) →
-        (if b then Some x else thread_at ts u.state.path) ≡ Some t → thread_at (if b then u ∷ ts else x ∷ put u ts) u.state.path ≡ Some u
+    go : (b : Bool) → same_path x.state.path u.state.path ≡ b → (thread_by_path ts u.state.path ≡ Some t → thread_by_path (put u ts) u.state.path ≡ Some u) →
+        (if b then Some x else thread_by_path ts u.state.path) ≡ Some t → thread_by_path (if b then u ∷ ts else x ∷ put u ts) u.state.path ≡ Some u
     go true q f h = found_first u ts u.state.path refl
-    go false q f h = let z : thread_at (x ∷ put u ts) u.state.path ≡ thread_at (put u ts) u.state.path = rw q refl in z ∙ f h
+    go false q f h = let z : thread_by_path (x ∷ put u ts) u.state.path ≡ thread_by_path (put u ts) u.state.path = rw q refl in z ∙ f h
 
-pub put_others : (u : Thread) (ts : List Thread) (q : List ℕ) → q ≢ u.state.path → thread_at (put u ts) q ≡ thread_at ts q
+pub put_others : (u : Thread) (ts : List Thread) (q : List ℕ) → q ≢ u.state.path → thread_by_path (put u ts) q ≡ thread_by_path ts q
 put_others u [] q n = refl
 put_others u (x ∷ ts) q n = go (same_path x.state.path u.state.path) refl (put_others u ts q n)
   where
-    go : (b : Bool) → same_path x.state.path u.state.path ≡ b → thread_at (put u ts) q ≡ thread_at ts q → thread_at (if b then u ∷ ts else x ∷ put u ts) q ≡ thread_at (x ∷ ts) q
+    go : (b : Bool) → same_path x.state.path u.state.path ≡ b → thread_by_path (put u ts) q ≡ thread_by_path ts q → thread_by_path (if b then u ∷ ts else x ∷ put u ts) q ≡ thread_by_path (x ∷ ts) q
     go true e h = let s : x.state.path ≡ u.state.path = same_path_is x.state.path u.state.path e in
         found_behind u ts q (λ z. n (sym z)) ∙ sym (found_behind x ts q (λ z. n (sym z ∙ s)))
     go false e h = elim (same_or_not x.state.path q) [ inl s ↦ found_first x (put u ts) q s ∙ sym (found_first x ts q s) | inr m ↦ found_behind x (put u ts) q m ∙ (h ∙ sym (found_behind x ts q m)) ]
 
 -- the thread that is added is found by its path where there was none, and the others as before
-pub added_found : (u : Thread) (ts : List Thread) → thread_at ts u.state.path ≡ None → thread_at (added u ts) u.state.path ≡ Some u
+pub added_found : (u : Thread) (ts : List Thread) → thread_by_path ts u.state.path ≡ None → thread_by_path (added u ts) u.state.path ≡ Some u
 added_found u [] e = found_first u [] u.state.path refl
 added_found u (x ∷ ts) e = go (path_lt u.state.path x.state.path) (same_or_not x.state.path u.state.path) (added_found u ts)
   where
-    go : (b : Bool) → (x.state.path ≡ u.state.path) ⊎ (x.state.path ≢ u.state.path) → (thread_at ts u.state.path ≡ None → thread_at (added u ts) u.state.path ≡ Some u) →
-        thread_at (if b then u ∷ x ∷ ts else x ∷ added u ts) u.state.path ≡ Some u
+    go : (b : Bool) → (x.state.path ≡ u.state.path) ⊎ (x.state.path ≢ u.state.path) → (thread_by_path ts u.state.path ≡ None → thread_by_path (added u ts) u.state.path ≡ Some u) →
+        thread_by_path (if b then u ∷ x ∷ ts else x ∷ added u ts) u.state.path ≡ Some u
     go true d f = found_first u (x ∷ ts) u.state.path refl
     go false (inl s) f = absurd (none-some x (sym e ∙ found_first x ts u.state.path s))
     go false (inr n) f = found_behind x (added u ts) u.state.path n ∙ f (sym (found_behind x ts u.state.path n) ∙ e)
 
-pub added_others : (u : Thread) (ts : List Thread) (q : List ℕ) → q ≢ u.state.path → thread_at (added u ts) q ≡ thread_at ts q
+pub added_others : (u : Thread) (ts : List Thread) (q : List ℕ) → q ≢ u.state.path → thread_by_path (added u ts) q ≡ thread_by_path ts q
 added_others u [] q n = found_behind u [] q (λ z. n (sym z))
 added_others u (x ∷ ts) q n = go (path_lt u.state.path x.state.path) (added_others u ts q n)
   where
-    go : (b : Bool) → thread_at (added u ts) q ≡ thread_at ts q → thread_at (if b then u ∷ x ∷ ts else x ∷ added u ts) q ≡ thread_at (x ∷ ts) q
+    go : (b : Bool) → thread_by_path (added u ts) q ≡ thread_by_path ts q → thread_by_path (if b then u ∷ x ∷ ts else x ∷ added u ts) q ≡ thread_by_path (x ∷ ts) q
     go true h = found_behind u (x ∷ ts) q (λ z. n (sym z))
     go false h = elim (same_or_not x.state.path q) [ inl s ↦ found_first x (added u ts) q s ∙ sym (found_first x ts q s) | inr m ↦ found_behind x (added u ts) q m ∙ (h ∙ sym (found_behind x ts q m)) ]
 
@@ -123,11 +123,11 @@ each_added P u (x ∷ ts) p a = go (path_lt u.state.path x.state.path) (each_add
     go true h = (p, a)
     go false h = (a.0, h)
 
-pub added_in_order : (u : Thread) (ts : List Thread) → thread_at ts u.state.path ≡ None → InOrder ts → InOrder (added u ts)
+pub added_in_order : (u : Thread) (ts : List Thread) → thread_by_path ts u.state.path ≡ None → InOrder ts → InOrder (added u ts)
 added_in_order u [] e s = (tt, tt)
 added_in_order u (x ∷ ts) e s = go (path_lt u.state.path x.state.path) (told u.state.path x.state.path) (same_or_not x.state.path u.state.path) (λ z. added_in_order u ts z s.1)
   where
-    go : (b : Bool) → Told u.state.path x.state.path b → (x.state.path ≡ u.state.path) ⊎ (x.state.path ≢ u.state.path) → (thread_at ts u.state.path ≡ None → InOrder (added u ts)) →
+    go : (b : Bool) → Told u.state.path x.state.path b → (x.state.path ≡ u.state.path) ⊎ (x.state.path ≢ u.state.path) → (thread_by_path ts u.state.path ≡ None → InOrder (added u ts)) →
         InOrder (if b then u ∷ x ∷ ts else x ∷ added u ts)
     go true h d f = ((h, all_map ts (λ y l. transitive u.state.path x.state.path y.state.path h l) s.0), s)
     go false h (inl q) f = absurd (none-some x (sym e ∙ found_first x ts u.state.path q))
@@ -139,11 +139,11 @@ abbrev pub sum_of : (Thread → ℕ) → List Thread → ℕ
 sum_of f [] = 0
 sum_of f (t ∷ ts) = f t + sum_of f ts
 
-pub sum_put : (f : Thread → ℕ) (u t : Thread) (ts : List Thread) → thread_at ts u.state.path ≡ Some t → sum_of f (put u ts) + f t ≡ sum_of f ts + f u
+pub sum_put : (f : Thread → ℕ) (u t : Thread) (ts : List Thread) → thread_by_path ts u.state.path ≡ Some t → sum_of f (put u ts) + f t ≡ sum_of f ts + f u
 sum_put f u t [] e = absurd (none-some t e)
 sum_put f u t (x ∷ ts) e = go (same_path x.state.path u.state.path) (sum_put f u t ts) e
   where
-    go : (b : Bool) → (thread_at ts u.state.path ≡ Some t → sum_of f (put u ts) + f t ≡ sum_of f ts + f u) → (if b then Some x else thread_at ts u.state.path) ≡ Some t →
+    go : (b : Bool) → (thread_by_path ts u.state.path ≡ Some t → sum_of f (put u ts) + f t ≡ sum_of f ts + f u) → (if b then Some x else thread_by_path ts u.state.path) ≡ Some t →
         sum_of f (if b then u ∷ ts else x ∷ put u ts) + f t ≡ f x + sum_of f ts + f u
     go true g h = let q : f x ≡ f t = ap f (same_Some x t h) in omega (arith, q)
     go false g h = let q : sum_of f (put u ts) + f t ≡ sum_of f ts + f u = g h in omega (arith, q)

@@ -4,8 +4,8 @@ use Rattle.priml_syntax.specs.Tree.{Type', unit, bool, int, pair, sum, thread, B
 use Rattle.priml_syntax.specs.Values.{Value', unit_value, bool_value, int_value, pair_value, left_value, right_value, thread_value, Outcome', returned, faulted}
 use Rattle.priml_syntax.specs.declared.prio.Prio.{Prio}
 use Rattle.priml_syntax.specs.declared.prio.Prio.TheVariants.{Const}
-use Rattle.priml_syntax.specs.Scoped.{Scope, PrioIn, BodyIn}
-use Rattle.type_rules.specs.Typing.{BodyHas, Setting}
+use Rattle.priml_syntax.specs.Scoped.{NameCounts, PrioIn, BodyIn}
+use Rattle.type_rules.specs.Typing.{BodyHas, Context}
 use Rattle.priority_order.specs.Order.{AtMost}
 use Rattle.core_steps.specs.Steps.{Job, Frame, Phase, Fresh, Run, Failing, Ended, State, Ran, prio_of}
 
@@ -29,11 +29,11 @@ AreDeclared job [] = Unit {0}
 AreDeclared job (p ∷ ps) = (p < length job.program.names) × AreDeclared job ps
 
 -- the setting of code under these constraints
-abbrev pub setting_at : Job → List Constraint → Setting
+abbrev pub setting_at : Job → List Constraint → Context
 setting_at job given = record { pairs = pairs_of job.program; procs = map (λ (g : Routine). g.declares) job.program.procs; given = given }
 
 -- the scope of code with this many priority variables
-abbrev pub scope_at : Job → ℕ → Scope
+abbrev pub scope_at : Job → ℕ → NameCounts
 scope_at job vars = record { prios = length job.program.names; vars = vars; procs = length job.program.procs }
 
 -- these priorities stand for the variables of code that meets the constraints, and that runs at r, which is q

@@ -6,9 +6,9 @@ use Rattle.std.proofs.lemmas.Option.{same_Some, slice_get-map}
 use Rattle.priml_syntax.specs.declared.expr.Op.{Op}
 use Rattle.priml_syntax.specs.declared.expr.Op.TheVariants.{Add, Sub, Mul, Div, Rem, Less, AtMost, Equal, And, Or}
 use Rattle.priml_syntax.specs.declared.value.FaultKind.TheVariants.{Overflow}
-use Rattle.priml_syntax.specs.Tree.{Type', bool, int, pair, sum, Term, var, number, truth, nothing, both, first, second, left, right, binary, negated}
+use Rattle.priml_syntax.specs.Tree.{Type', bool, int, pair, sum, Term, var, number, bool_term, unit_term, pair_term, first, second, left, right, binary, negated}
 use Rattle.priml_syntax.specs.Values.{Value', unit_value, bool_value, int_value, Outcome', returned, faulted}
-use Rattle.type_rules.specs.Typing.{Scope, HasType, HaveTypes, operand, gives}
+use Rattle.type_rules.specs.Typing.{VarTypes, HasType, HaveTypes, operand, gives}
 use Rattle.core_steps.specs.Expressions.{fits, divided, remainder, op_value, fst_value, snd_value, not_value, with_one, with_two, gave, result_of, Results, AllGave, OneFault, one_more, results_of}
 use Rattle.core_steps.specs.Steps.{Job}
 use Rattle.core_steps.proofs.Typed.{Has, has_unit, has_bool, has_int, has_pair, has_left, has_right, AllHave, none, more, OutcomeHas, settled}
@@ -78,17 +78,17 @@ module _ (job : Job) where
   op_has ps And has_bool has_bool = has_bool
   op_has ps Or has_bool has_bool = has_bool
 
-  pub settled_get : (ps : List ℕ) (G : Scope) (x : ℕ) (T : Type') → slice_get G x ≡ Some T → slice_get (map (settled ps) G) x ≡ Some (settled ps T)
+  pub settled_get : (ps : List ℕ) (G : VarTypes) (x : ℕ) (T : Type') → slice_get G x ≡ Some T → slice_get (map (settled ps) G) x ≡ Some (settled ps T)
   settled_get ps G x T e = slice_get-map (settled ps) G x ∙ ap (option_map (settled ps)) e
 
   -- no expression of a type meets a value of a wrong kind
-  pub result_has : (ps : List ℕ) (G : Scope) (scope : List Value') → AllHave job scope (map (settled ps) G) → (e : Term) (T : Type') → HasType G e T → Gives job (settled ps T) (result_of scope e)
+  pub result_has : (ps : List ℕ) (G : VarTypes) (scope : List Value') → AllHave job scope (map (settled ps) G) → (e : Term) (T : Type') → HasType G e T → Gives job (settled ps T) (result_of scope e)
   result_has ps G scope s (var at x) T h = variable_has x (settled ps T) s (settled_get ps G x T h)
   result_has ps G scope s (number at n) T h = subst (λ Z. Gives job (settled ps Z) (Some (returned (int_value n)))) (sym h) has_int
-  result_has ps G scope s (truth at b) T h = subst (λ Z. Gives job (settled ps Z) (Some (returned (bool_value b)))) (sym h) has_bool
-  result_has ps G scope s (nothing at) T h = subst (λ Z. Gives job (settled ps Z) (Some (returned unit_value))) (sym h) has_unit
-  result_has ps G scope s (both at a b) T (A, B, x, y, e, w) =
-      subst (λ Z. Gives job (settled ps Z) (result_of scope (both at a b))) (sym e)
+  result_has ps G scope s (bool_term at b) T h = subst (λ Z. Gives job (settled ps Z) (Some (returned (bool_value b)))) (sym h) has_bool
+  result_has ps G scope s (unit_term at) T h = subst (λ Z. Gives job (settled ps Z) (Some (returned unit_value))) (sym h) has_unit
+  result_has ps G scope s (pair_term at a b) T (A, B, x, y, e, w) =
+      subst (λ Z. Gives job (settled ps Z) (result_of scope (pair_term at a b))) (sym e)
       (two_have (settled ps A) (settled ps B) (settled ps (pair A B)) (result_of scope a) (result_of scope b) _ (result_has ps G scope s a A x) (result_has ps G scope s b B y) (λ v w p q. has_pair p q))
   result_has ps G scope s (first at a) T (B, x) = one_has (settled ps (pair T B)) (settled ps T) (result_of scope a) fst_value (result_has ps G scope s a (pair T B) x) (λ v p. first_has p)
   result_has ps G scope s (second at a) T (A, x) = one_has (settled ps (pair A T)) (settled ps T) (result_of scope a) snd_value (result_has ps G scope s a (pair A T) x) (λ v p. second_has p)
@@ -114,7 +114,7 @@ module _ (job : Job) where
   one_more_has T Ts (Some (returned v)) (Some (AllGave vs)) h k = more h k
 
   -- the same of several expressions
-  pub results_have : (ps : List ℕ) (G : Scope) (scope : List Value') → AllHave job scope (map (settled ps) G) → (es : List Term) (Ts : List Type') → HaveTypes G es Ts → GivesAll job (map (settled ps) Ts) (results_of scope es)
+  pub results_have : (ps : List ℕ) (G : VarTypes) (scope : List Value') → AllHave job scope (map (settled ps) G) → (es : List Term) (Ts : List Type') → HaveTypes G es Ts → GivesAll job (map (settled ps) Ts) (results_of scope es)
   results_have ps G scope s [] Ts h = subst (λ Z. GivesAll job (map (settled ps) Z) (Some (AllGave []))) (sym h) none
   results_have ps G scope s (e ∷ es) Ts (T, rest, x, y, eq) =
       subst (λ Z. GivesAll job (map (settled ps) Z) (results_of scope (e ∷ es))) (sym eq)

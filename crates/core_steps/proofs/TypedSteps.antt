@@ -8,14 +8,14 @@ use Rattle.priml_syntax.specs.declared.event.Event.{Event}
 use Rattle.priml_syntax.specs.declared.prio.Prio.{Prio}
 use Rattle.priml_syntax.specs.declared.prio.Prio.TheVariants.{Const}
 use Rattle.priml_syntax.specs.declared.value.FaultKind.TheVariants.{Depth}
-use Rattle.priml_syntax.specs.Tree.{Type', unit, bool, int, sum, thread, Term, Code, block, Body, bind, give, branch, split, Act, ret, spawn, sync, call, run, input, output, inside, Routine, Signature, Constraint, pairs_of}
+use Rattle.priml_syntax.specs.Tree.{Type', unit, bool, int, sum, thread, Term, Code, block, Body, bind, ret_tail, if_tail, case_tail, Act, ret, spawn, sync, call, do_block, input, output, inside, Routine, Signature, Constraint, pairs_of}
 use Rattle.priml_syntax.specs.Values.{Value', thread_value, Outcome', returned, faulted}
 use Rattle.priml_syntax.specs.Scoped as scoped
 use Rattle.priml_syntax.specs.Scoped.{PrioIn, PriosIn, CodeIn, BodyIn, ActIn, RoutineIn, scope_in}
 use Rattle.priml_syntax.specs.Paths.{child_path}
 use Rattle.priml_syntax.specs.Inputs.{inputs_of}
 use Rattle.constraint_proof.specs.Entailed.{Entailed}
-use Rattle.type_rules.specs.Typing.{Scope, Setting, HasType, CodeHas, BodyHas, ActHas, CallFits, at_prios, type_at}
+use Rattle.type_rules.specs.Typing.{VarTypes, Context, HasType, CodeHas, BodyHas, ActHas, CallFits, subst_prio, subst_type}
 use Rattle.type_rules.specs.Typable.{RoutineTyped}
 use Rattle.core_steps.specs.Expressions.{gave, result_of, results_of, Results, AllGave, OneFault}
 use Rattle.core_steps.specs.Steps as steps
@@ -55,10 +55,10 @@ signed_by [] f sig e = cc
 signed_by (g ∷ gs) zero sig e = (g, refl, same_Some g.declares sig e)
 signed_by (g ∷ gs) (suc f) sig e = signed_by gs f sig e
 
-pub inside_has : (c : Code) (s : Setting) (G : Scope) (r : Prio) (T : Type') → CodeHas c s G r T → BodyHas (inside c) s G r T
+pub inside_has : (c : Code) (s : Context) (G : VarTypes) (r : Prio) (T : Type') → CodeHas c s G r T → BodyHas (inside c) s G r T
 inside_has (block at b) s G r T h = h
 
-pub inside_in : (c : Code) (s : scoped.Scope) (n : ℕ) → CodeIn c s n → BodyIn (inside c) s n
+pub inside_in : (c : Code) (s : scoped.NameCounts) (n : ℕ) → CodeIn c s n → BodyIn (inside c) s n
 inside_in (block at b) s n h = h
 
 have_push : {job : Job} {vs : List Value'} {ts : List Type'} {v : Value'} {t : Type'} → AllHave job vs ts → Has job v t → AllHave job (vs ++ v ∷ []) (ts ++ t ∷ [])
@@ -144,7 +144,7 @@ module _ (job : Job) (checked : IsChecked job) (q : ℕ) (u : Type') where
       -- a callee's frame has the type of the call
       callee_fits : (f : ℕ) (qs : List Prio) (es : List Term) (A : Type') → PriosIn (scope_at job (length t.prios)) qs → (fit : CallFits (setting_at job given) all r f qs es A) →
           (g : Routine) → slice_get job.program.procs f ≡ Some g → g.declares ≡ fit.sig →
-          (vs : List Value') → AllHave job vs (map (settled t.prios) (map (type_at qs) fit.sig.params)) → CodeFits job (inside g.body) vs (map (prio_of t.prios) qs) [] q (settled t.prios A)
+          (vs : List Value') → AllHave job vs (map (settled t.prios) (map (subst_type qs) fit.sig.params)) → CodeFits job (inside g.body) vs (map (prio_of t.prios) qs) [] q (settled t.prios A)
       callee_fits f qs es A within fit g there same vs have =
           let typed : RoutineTyped job.program g = at_number (RoutineTyped job.program) job.program.procs f g checked.typable.procs there in
           let routine : RoutineIn job.program g = at_number (RoutineIn job.program) job.program.procs f g checked.scoped.procs there in
@@ -153,21 +153,21 @@ module _ (job : Job) (checked : IsChecked job) (q : ℕ) (u : Type') where
           fits g.declares.given g.declares.own g.declares.gives g.declares.params (map (settled (map (prio_of t.prios) qs)) g.declares.params)
           (record {
             declared = all_declared_at job t.prios qs under.declared within;
-            meets = meets_at (scope_in job.program g) (pairs_of job.program) given t.prios qs under.meets few g.declares.given routine.given (subst (All (λ (c : Constraint). Entailed (pairs_of job.program) given (at_prios qs c.0) (at_prios qs c.1))) (ap (λ z. z.given) (sym same)) fit.constraints);
+            meets = meets_at (scope_in job.program g) (pairs_of job.program) given t.prios qs under.meets few g.declares.given routine.given (subst (All (λ (c : Constraint). Entailed (pairs_of job.program) given (subst_prio qs c.0) (subst_prio qs c.1))) (ap (λ z. z.given) (sym same)) fit.constraints);
             scoped = subst (λ n. PrioIn (scope_at job n) g.declares.own) vars routine.own;
-            own = sym (prio_settled (scope_in job.program g) t.prios qs g.declares.own few routine.own) ∙ (ap (λ z. prio_of t.prios (at_prios qs z.own)) same ∙ (ap (prio_of t.prios) fit.own ∙ under.own));
+            own = sym (prio_settled (scope_in job.program g) t.prios qs g.declares.own few routine.own) ∙ (ap (λ z. prio_of t.prios (subst_prio qs z.own)) same ∙ (ap (prio_of t.prios) fit.own ∙ under.own));
           })
           (inside_has g.body _ _ _ _ typed)
           (subst (λ n. BodyIn (inside g.body) (scope_at job n) (length g.declares.params)) vars (inside_in g.body _ _ routine.body))
-          (subst (AllHave job vs) (ap (λ z. map (settled t.prios) (map (type_at qs) z.params)) (sym same) ∙ types_settled (scope_in job.program g) t.prios qs g.declares.params few routine.params) have)
+          (subst (AllHave job vs) (ap (λ z. map (settled t.prios) (map (subst_type qs) z.params)) (sym same) ∙ types_settled (scope_in job.program g) t.prios qs g.declares.params few routine.params) have)
           (append-nil _)
-          (sym (type_settled (scope_in job.program g) t.prios qs g.declares.gives few routine.gives.0) ∙ (ap (λ z. settled t.prios (type_at qs z.gives)) same ∙ ap (settled t.prios) (sym fit.gives)))
+          (sym (type_settled (scope_in job.program g) t.prios qs g.declares.gives few routine.gives.0) ∙ (ap (λ z. settled t.prios (subst_type qs z.gives)) same ∙ ap (settled t.prios) (sym fit.gives)))
 
       call_moves : (f : ℕ) (qs : List Prio) (es : List Term) (k : Body) (A : Type') → PriosIn (scope_at job (length t.prios)) qs → CallFits (setting_at job given) all r f qs es A → Wants k (settled t.prios A) →
           MovesTo job q u (steps.with_results s (results_of t.scope es) (steps.call_step s t fs k (slice_get job.program.procs f) qs))
       call_moves f qs es k A within fit rest =
           let callee = signed_by job.program.procs f fit.sig fit.is in
-          results_move s (map (settled t.prios) (map (type_at qs) fit.sig.params)) (results_of t.scope es) _ (results_have job t.prios all t.scope values es (map (type_at qs) fit.sig.params) fit.arguments)
+          results_move s (map (settled t.prios) (map (subst_type qs) fit.sig.params)) (results_of t.scope es) _ (results_have job t.prios all t.scope values es (map (subst_type qs) fit.sig.params) fit.arguments)
           (λ vs have. subst (λ z. MovesTo job q u (steps.call_step s t fs k z qs vs)) (sym callee.1)
           ((settled t.prios A, callee_fits f qs es A within fit callee.0 callee.1 callee.2 vs have, (w, rest, stack)), tt))
 
@@ -184,7 +184,7 @@ module _ (job : Job) (checked : IsChecked job) (q : ℕ) (u : Type') where
           let b : thread_in (slice_get t.scope x) ≡ Some there.0 = ap thread_in there.1 in
           subst (λ i. MovesTo job q u (steps.sync_step s t fs k i o)) (sym b) (join_moves k (prio_of t.prios p) (settled t.prios A) there.0 o rest there.2 (subst (λ i. Handed job i o) b handed))
       act_moves (call f qs es) k A o has within rest bears handed = call_moves f qs es k A within.1 has rest
-      act_moves (run (block at b)) k A o has within rest bears handed =
+      act_moves (do_block (block at b)) k A o has within rest bears handed =
           ((settled t.prios A, fits given r A all (map (settled t.prios) all) under has within values (append-nil _) refl, (w, rest, stack)), tt)
       act_moves input k A o has within rest bears handed = read_moves k (slice_get (inputs_of job.inputs s.path) s.reads) (subst (λ z. Wants k (settled t.prios z)) has rest)
       act_moves (output e) k A o has within rest bears handed = result_moves s int (result_of t.scope e) _ (result e int has.0) (λ v h. output_moves k (subst (λ z. Wants k (settled t.prios z)) has.1 rest) h)
@@ -203,11 +203,11 @@ module _ (job : Job) (checked : IsChecked job) (q : ℕ) (u : Type') where
         body_moves : (c : Body) (o : Option Outcome') → BodyHas c (setting_at job given) all r T → BodyIn c (scope_at job (length t.prios)) (length all) →
             Bears job (awaits_code t c) (run_code job s t fs c None) → Handed job (awaits_code t c) o → MovesTo job q u (run_code job s t fs c o)
         body_moves (bind at a k) o has within bears handed = act_moves a k has.0 o has.1 within.0 (wants k has.0 has.2 within.2) bears handed
-        body_moves (give at x) o has within bears handed =
+        body_moves (ret_tail at x) o has within bears handed =
             result_moves s w (result_of t.scope x) _ (subst (λ z. Gives job z (result_of t.scope x)) gives (result x T has)) (λ v h. back_moves s fs v w stack h)
-        body_moves (branch at x (block ata a) (block atb b)) o has within bears handed =
+        body_moves (if_tail at x (block ata a) (block atb b)) o has within bears handed =
             result_moves s bool (result_of t.scope x) _ (result x bool has.0) (λ v h. if_moves (block ata a) (block atb b) (stays a has.1 within.1) (stays b has.2 within.2) h)
-        body_moves (split at x (block ata a) (block atb b)) o has within bears handed =
+        body_moves (case_tail at x (block ata a) (block atb b)) o has within bears handed =
             result_moves s (settled t.prios (sum has.0 has.1)) (result_of t.scope x) _ (result x (sum has.0 has.1) has.2)
             (λ v h. case_moves (block ata a) (block atb b) (settled t.prios has.0) (settled t.prios has.1) (wants a has.0 has.3 within.2) (wants b has.1 has.4 within.3) h)
 

@@ -6,13 +6,13 @@ use Rattle.core_steps.specs.declared.slot.Slot.{Slot}
 use Rattle.core_steps.specs.declared.local.Made.{Made as TheMade}
 use Rattle.core_steps.specs.Fields.{read_boxed}
 use Rattle.core_steps.specs.Steps.{Job}
-use Rattle.core_steps.specs.Configs.{read_slot, with_slot, SlotsRise, AreSlots, IsTold, StandsAt, StepsAt, Advances}
+use Rattle.core_steps.specs.Configs.{read_slot, with_slot, SlotsRise, AreSlots, SlotNeeds, StandsAt, StepsAt, Advances}
 use Rattle.core_steps.proofs.Searched.{path_there}
 use Rattle.core_steps.proofs.Slots.{slots_rise}
 use Rattle.core_steps.proofs.Advanced.{mid_rises, new_slots, advances}
 
 module _ (job : Job) (xs ys mid : List Slot) (at : ℕ) (b : Option (List ℕ)) (w : Option Outcome') (m : TheMade) (config : AreSlots job (map read_slot xs)) (there : at < length xs)
-    (told : (p : List ℕ) → StandsAt xs p at → IsTold job (map read_slot xs) p b w) (same : ys ≡ xs) (goes : (p : List ℕ) → StandsAt ys p at → StepsAt job (map read_slot ys) p w m (map read_slot mid)) where
+    (told : (p : List ℕ) → StandsAt xs p at → SlotNeeds job (map read_slot xs) p b w) (same : ys ≡ xs) (goes : (p : List ℕ) → StandsAt ys p at → StepsAt job (map read_slot ys) p w m (map read_slot mid)) where
   steps : (p : List ℕ) → StandsAt xs p at → StepsAt job (map read_slot xs) p w m (map read_slot mid)
   steps p stands = subst (λ zs. StepsAt job (map read_slot zs) p w m (map read_slot mid)) same (goes p (subst (λ zs. StandsAt zs p at) (sym same) stands))
 

@@ -12,9 +12,9 @@ pub record Thread : Type 0 where
   pub events : List Event
 
 -- the thread of a path
-abbrev pub thread_at : List Thread → List ℕ → Option Thread
-thread_at [] p = None
-thread_at (t ∷ ts) p = if same_path t.state.path p then Some t else thread_at ts p
+abbrev pub thread_by_path : List Thread → List ℕ → Option Thread
+thread_by_path [] p = None
+thread_by_path (t ∷ ts) p = if same_path t.state.path p then Some t else thread_by_path ts p
 
 -- with this thread in place of that of its path
 abbrev pub put : Thread → List Thread → List Thread
@@ -37,7 +37,7 @@ ended_of (Some t) = option_and_then (λ o. Some (Some o)) (outcome_in t.state.ph
 
 abbrev pub handed : List Thread → Option (List ℕ) → Option (Option Outcome')
 handed ts None = Some None
-handed ts (Some b) = ended_of (thread_at ts b)
+handed ts (Some b) = ended_of (thread_by_path ts b)
 
 abbrev pub after : List Thread → Thread → Moved → List Thread
 after ts t m = with_child m.child (put (record { state = m.next; events = t.events ++ m.event ∷ [] }) ts)
@@ -47,7 +47,7 @@ moved job ts t = option_and_then (λ w. step job t.state w) (handed ts (awaits t
 
 -- one choice: the thread of that path makes its next step
 abbrev pub chosen : Job → List Thread → List ℕ → Option (List Thread)
-chosen job ts p = option_and_then (λ t. option_and_then (λ m. Some (after ts t m)) (moved job ts t)) (thread_at ts p)
+chosen job ts p = option_and_then (λ t. option_and_then (λ m. Some (after ts t m)) (moved job ts t)) (thread_by_path ts p)
 
 abbrev pub followed : Job → List Thread → List (List ℕ) → Option (List Thread)
 followed job ts [] = Some ts
@@ -74,7 +74,7 @@ IsFinished (t ∷ ts) = ((o : Outcome') × (outcome_in t.state.phase ≡ Some o)
 
 -- thread a waits on thread b
 abbrev pub WaitsOn : List Thread → List ℕ → List ℕ → Type 0
-WaitsOn ts a b = (t : Thread) × (thread_at ts a ≡ Some t) × (awaits t.state ≡ Some b) × (handed ts (Some b) ≡ None)
+WaitsOn ts a b = (t : Thread) × (thread_by_path ts a ≡ Some t) × (awaits t.state ≡ Some b) × (handed ts (Some b) ≡ None)
 
 abbrev pub entry_of : Thread → Outcome' → Entry
 entry_of t o = record { path = t.state.path; prio = t.state.prio; events = t.events; outcome = o }

@@ -17,7 +17,7 @@ use Rattle.core_steps.specs.declared.local.Made.{Made as TheMade}
 use Rattle.core_steps.specs.Locals.{ended_with}
 use Rattle.core_steps.specs.Moves.{Goes}
 use Rattle.core_steps.specs.Steps.{Job, State, awaits, outcome_in}
-use Rattle.core_steps.specs.Config.{Thread, thread_at, handed, chosen, Reached, IsFinished, WaitsOn, records_of}
+use Rattle.core_steps.specs.Config.{Thread, thread_by_path, handed, chosen, Reached, IsFinished, WaitsOn, records_of}
 use Rattle.core_steps.specs.Meaning.{meaning, Finished}
 use Rattle.core_steps.specs.Determined.{HasEnded, events_of}
 
@@ -102,31 +102,31 @@ IsWait job ss p o = (ts : List Thread) → threads_from job.program ss ≡ Some 
 
 -- the thread of the path has not ended
 abbrev pub IsLive : List Thread → List ℕ → Type 0
-IsLive ts p = (t : Thread) × (thread_at ts p ≡ Some t) × (outcome_in t.state.phase ≡ None)
+IsLive ts p = (t : Thread) × (thread_by_path ts p ≡ Some t) × (outcome_in t.state.phase ≡ None)
 
 -- why the thread of the path made no step: of these the first three tell it exactly, and no two of them hold at once; memory is wanting only where the thread is there and has not ended
-abbrev pub StopsAt : List Thread → List ℕ → CoreStop → Type 0
-StopsAt ts p NoThread = thread_at ts p ≡ None
-StopsAt ts p Ended = HasEnded ts p
-StopsAt ts p (Waits b) = WaitsOn ts p b
-StopsAt ts p OutOfMemory = IsLive ts p
+abbrev pub IsStopAt : List Thread → List ℕ → CoreStop → Type 0
+IsStopAt ts p NoThread = thread_by_path ts p ≡ None
+IsStopAt ts p Ended = HasEnded ts p
+IsStopAt ts p (Waits b) = WaitsOn ts p b
+IsStopAt ts p OutOfMemory = IsLive ts p
 
 -- the thread of the path awaits that one, or none, and is handed this
-abbrev pub IsHandedIn : List Thread → List ℕ → Option (List ℕ) → Option Outcome' → Type 0
-IsHandedIn ts p b w = (t : Thread) × (thread_at ts p ≡ Some t) × (outcome_in t.state.phase ≡ None) × (awaits t.state ≡ b) × (handed ts b ≡ Some w)
+abbrev pub Needs : List Thread → List ℕ → Option (List ℕ) → Option Outcome' → Type 0
+Needs ts p b w = (t : Thread) × (thread_by_path ts p ≡ Some t) × (outcome_in t.state.phase ≡ None) × (awaits t.state ≡ b) × (handed ts b ≡ Some w)
 
-abbrev pub IsGivenIn : List Thread → List ℕ → Result (Option (List ℕ × Outcome)) CoreStop → Type 0
-IsGivenIn ts p (Ok None) = IsHandedIn ts p None None
-IsGivenIn ts p (Ok (Some x)) = IsHandedIn ts p (Some x.0) (Some (read_outcome x.1))
-IsGivenIn ts p (Err stop) = StopsAt ts p stop
+abbrev pub IsNeedIn : List Thread → List ℕ → Result (Option (List ℕ × Outcome)) CoreStop → Type 0
+IsNeedIn ts p (Ok None) = Needs ts p None None
+IsNeedIn ts p (Ok (Some x)) = Needs ts p (Some x.0) (Some (read_outcome x.1))
+IsNeedIn ts p (Err stop) = IsStopAt ts p stop
 
 -- what the next step of the thread of the path needs, or why there is none
-abbrev pub IsHanded : Job → List SlotFields → List ℕ → Result (Option (List ℕ × Outcome)) CoreStop → Type 0
-IsHanded job ss p r = (ts : List Thread) → threads_from job.program ss ≡ Some ts → IsGivenIn ts p r
+abbrev pub IsNeed : Job → List SlotFields → List ℕ → Result (Option (List ℕ × Outcome)) CoreStop → Type 0
+IsNeed job ss p r = (ts : List Thread) → threads_from job.program ss ≡ Some ts → IsNeedIn ts p r
 
 -- it is this
-abbrev pub IsTold : Job → List SlotFields → List ℕ → Option (List ℕ) → Option Outcome' → Type 0
-IsTold job ss p b w = (ts : List Thread) → threads_from job.program ss ≡ Some ts → IsHandedIn ts p b w
+abbrev pub SlotNeeds : Job → List SlotFields → List ℕ → Option (List ℕ) → Option Outcome' → Type 0
+SlotNeeds job ss p b w = (ts : List Thread) → threads_from job.program ss ≡ Some ts → Needs ts p b w
 
 -- the thread of the path, which has ended, and its outcome
 abbrev pub IsEnded : List SlotFields → List ℕ → Result (List ℕ × Outcome) CoreStop → Type 0
@@ -173,7 +173,7 @@ Advances job old p e new = (ts : List Thread) → threads_from job.program old �
 
 -- why it made none
 abbrev pub Stops : Job → List SlotFields → List ℕ → CoreStop → Type 0
-Stops job ss p stop = (ts : List Thread) → threads_from job.program ss ≡ Some ts → StopsAt ts p stop
+Stops job ss p stop = (ts : List Thread) → threads_from job.program ss ≡ Some ts → IsStopAt ts p stop
 
 -- a step joins the thread of this path, or none
 abbrev pub JoinsAt : Job → LocalFields → Option (List ℕ) → Type 0

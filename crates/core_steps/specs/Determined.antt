@@ -3,7 +3,7 @@ use Rattle.std.specs.Prelude.{◌≡◌, ℕ, ◌+◌, List, [], ◌∷◌, ◌+
 use Rattle.priml_syntax.specs.declared.event.Event.{Event}
 use Rattle.priml_syntax.specs.Values.{Outcome'}
 use Rattle.core_steps.specs.Steps.{Job, State, Moved, step, awaits, Ended, Ran, outcome_in}
-use Rattle.core_steps.specs.Config.{Thread, thread_at}
+use Rattle.core_steps.specs.Config.{Thread, thread_by_path}
 
 -- the state of a thread after n steps
 abbrev pub Determined : Job → List ℕ → ℕ → State → Type 0
@@ -30,13 +30,13 @@ events_in (Some t) = t.events
 
 -- the events so far of a thread, none where there is no such thread
 abbrev pub events_of : List Thread → List ℕ → List Event
-events_of ts p = events_in (thread_at ts p)
+events_of ts p = events_in (thread_by_path ts p)
 
 abbrev pub IsIn : List Thread → List ℕ → Type 0
-IsIn ts p = (t : Thread) × (thread_at ts p ≡ Some t)
+IsIn ts p = (t : Thread) × (thread_by_path ts p ≡ Some t)
 
 abbrev pub HasEnded : List Thread → List ℕ → Type 0
-HasEnded ts p = (t : Thread) × (o : Outcome') × (thread_at ts p ≡ Some t) × (outcome_in t.state.phase ≡ Some o)
+HasEnded ts p = (t : Thread) × (o : Outcome') × (thread_by_path ts p ≡ Some t) × (outcome_in t.state.phase ≡ Some o)
 
 -- the number of all events
 abbrev pub steps_of : List Thread → ℕ

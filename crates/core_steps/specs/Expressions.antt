@@ -1,6 +1,6 @@
 -- What an expression gives in a scope.
 use Rattle.std.specs.Prelude.{◌≡◌, ℕ, ◌+◌, ◌-◌, ◌^◌, Bool, true, false, ◌&&◌, ◌||◌, not, if◌then◌else◌, ℤ, pos, negsuc, ◌+ℤ◌, ◌-ℤ◌, ◌*ℤ◌, int_div, int_rem, int_lt, int_le, List, [], ◌∷◌, ◌++◌, Option, Some, None, slice_get}
-use Rattle.priml_syntax.specs.Tree.{Term, var, number, truth, nothing, both, first, second, left, right, binary, negated}
+use Rattle.priml_syntax.specs.Tree.{Term, var, number, bool_term, unit_term, pair_term, first, second, left, right, binary, negated}
 use Rattle.priml_syntax.specs.Values.{Value', unit_value, bool_value, int_value, pair_value, left_value, right_value, Outcome', returned, faulted}
 use Rattle.priml_syntax.specs.declared.value.FaultKind.{FaultKind}
 use Rattle.priml_syntax.specs.declared.value.FaultKind.TheVariants.{Overflow, Zero}
@@ -85,9 +85,9 @@ gave (Some v) = Some (returned v)
 abbrev pub result_of : List Value' → Term → Option Outcome'
 result_of s (var at x) = gave (slice_get s x)
 result_of s (number at z) = Some (returned (int_value z))
-result_of s (truth at b) = Some (returned (bool_value b))
-result_of s (nothing at) = Some (returned unit_value)
-result_of s (both at a b) = with_two (result_of s a) (result_of s b) (λ v w. Some (returned (pair_value v w)))
+result_of s (bool_term at b) = Some (returned (bool_value b))
+result_of s (unit_term at) = Some (returned unit_value)
+result_of s (pair_term at a b) = with_two (result_of s a) (result_of s b) (λ v w. Some (returned (pair_value v w)))
 result_of s (first at a) = with_one (result_of s a) fst_value
 result_of s (second at a) = with_one (result_of s a) snd_value
 result_of s (left at t a) = with_one (result_of s a) (λ v. Some (returned (left_value v)))

@@ -1,7 +1,7 @@
 -- The serial meaning: a spawned thread is evaluated whole before its parent goes on.
 use Rattle.std.specs.Prelude.{ℕ, zero, suc, ◌+◌, Bool, true, false, ◌&&◌, nat_lt, if◌then◌else◌, ℤ, List, [], ◌∷◌, ◌++◌, Option, Some, None, slice_get, map, length}
 use Rattle.std.specs.Option.{option_and_then}
-use Rattle.priml_syntax.specs.Tree.{Body, bind, give, branch, split, ret, spawn, sync, call, run, input, output, inside, Routine}
+use Rattle.priml_syntax.specs.Tree.{Body, bind, ret_tail, if_tail, case_tail, ret, spawn, sync, call, do_block, input, output, inside, Routine}
 use Rattle.priml_syntax.specs.Values.{Value', unit_value, bool_value, int_value, left_value, right_value, thread_value, Outcome', returned, faulted, Entry}
 use Rattle.priml_syntax.specs.declared.value.FaultKind.TheVariants.{Depth}
 use Rattle.priml_syntax.specs.declared.event.Event.{Event}
@@ -98,10 +98,10 @@ may_spawn h = nat_lt (length h.path) 32 && nat_lt h.children 4294967295
 -- what a block gives: code, values in scope, priorities. The fuel bounds the events along each chain of evaluation
 abbrev pub eval : Job → ℕ → Here → List Entry → Body → List Value' → List ℕ → Answer
 eval job zero h done c scope ps = Out
-eval job (suc d) h done (give at e) scope ps = with_value h done (result_of scope e) (λ v. Back (returned v) h done)
-eval job (suc d) h done (branch at e a b) scope ps =
+eval job (suc d) h done (ret_tail at e) scope ps = with_value h done (result_of scope e) (λ v. Back (returned v) h done)
+eval job (suc d) h done (if_tail at e a b) scope ps =
     with_value h done (result_of scope e) (λ v. elim v [ bool_value c ↦ elim c [ true ↦ eval job d (noted h Plain) done (inside a) scope ps | false ↦ eval job d (noted h Plain) done (inside b) scope ps ] | _ ↦ Out ])
-eval job (suc d) h done (split at e a b) scope ps =
+eval job (suc d) h done (case_tail at e a b) scope ps =
     with_value h done (result_of scope e) (λ v. cased v (λ w. eval job d (noted h Plain) done (inside a) (scope ++ w ∷ []) ps) (λ w. eval job d (noted h Plain) done (inside b) (scope ++ w ∷ []) ps))
 eval job (suc d) h done (bind at (ret e) k) scope ps =
     with_value h done (result_of scope e) (λ v. eval job d (noted h Plain) done k (scope ++ v ∷ []) ps)
@@ -114,7 +114,7 @@ eval job (suc d) h done (bind at (sync x) k) scope ps =
     synced h done (thread_in (slice_get scope x)) (λ b v. eval job d (noted h (Join b)) done k (scope ++ v ∷ []) ps)
 eval job (suc d) h done (bind at (call f qs es) k) scope ps =
     with_values h done (results_of scope es) (λ vs. called (slice_get job.program.procs f) (λ g. after_block (eval job d (noted h Plain) done (inside g.body) vs (map (prio_of ps) qs)) (λ w h' done'. eval job d (noted h' Plain) done' k (scope ++ w ∷ []) ps)))
-eval job (suc d) h done (bind at (run b) k) scope ps =
+eval job (suc d) h done (bind at (do_block b) k) scope ps =
     after_block (eval job d (noted h Plain) done (inside b) scope ps) (λ w h' done'. eval job d (noted h' Plain) done' k (scope ++ w ∷ []) ps)
 eval job (suc d) h done (bind at input k) scope ps =
     drawn (slice_get (inputs_of job.inputs h.path) h.reads) (λ v n. eval job d (record h { reads = h.reads + n; events = h.events ++ Read ∷ [] }) done k (scope ++ v ∷ []) ps)

@@ -14,8 +14,8 @@ use Rattle.core_steps.specs.declared.frame.Root.TheVariants.{Procedure}
 use Rattle.core_steps.specs.Steps.{Job, State, Moved, step}
 
 -- the program and the inputs of a job as plain data
-abbrev pub job_of : WithInputs → Job
-job_of j = record { program = read_program j.program; inputs = j.inputs }
+abbrev pub read_job : WithInputs → Job
+read_job j = record { program = read_program j.program; inputs = j.inputs }
 
 -- the fields stand for a state that makes a step with this awaited outcome
 abbrev pub CanStep : Job → LocalFields → Option Outcome' → Type 0

@@ -16,8 +16,8 @@ abbrev pub read_result : Option Outcome → Option Outcome'
 read_result = option_map read_outcome
 
 -- two expressions that give these numbers
-abbrev pub AreNumbers : List Value' → Term → Term → ℤ → ℤ → Type 0
-AreNumbers s a b m n = (result_of s a ≡ Some (returned (int_value m))) × (result_of s b ≡ Some (returned (int_value n)))
+abbrev pub GiveNumbers : List Value' → Term → Term → ℤ → ℤ → Type 0
+GiveNumbers s a b m n = (result_of s a ≡ Some (returned (int_value m))) × (result_of s b ≡ Some (returned (int_value n)))
 
 -- what comes of a value, or what came in its place
 abbrev pub one_with : (Value' → Option Outcome') → Result Value (Option Outcome) → Option Outcome'

@@ -1,6 +1,6 @@
 -- The local state of a thread, its steps, and the states that a job determines.
 use Rattle.std.specs.Prelude.{◌≡◌, ℕ, ◌+◌, true, false, ◌&&◌, nat_lt, if◌then◌else◌, ℤ, List, [], ◌∷◌, ◌++◌, Option, Some, None, slice_get, slice_index, map, length}
-use Rattle.priml_syntax.specs.Tree.{Code, Body, bind, give, branch, split, Act, ret, spawn, sync, call, run, input, output, inside, Routine, Tree}
+use Rattle.priml_syntax.specs.Tree.{Code, Body, bind, ret_tail, if_tail, case_tail, Act, ret, spawn, sync, call, do_block, input, output, inside, Routine, Tree}
 use Rattle.priml_syntax.specs.Values.{Value', unit_value, bool_value, int_value, left_value, right_value, thread_value, Outcome', returned, faulted}
 use Rattle.priml_syntax.specs.declared.value.FaultKind.{FaultKind}
 use Rattle.priml_syntax.specs.declared.value.FaultKind.TheVariants.{Depth}
@@ -111,7 +111,7 @@ act job s t fs (ret e) k w = with_result s (result_of t.scope e) (λ v. go s Pla
 act job s t fs (spawn p b) k w = spawn_step s t fs p b k
 act job s t fs (sync x) k w = sync_step s t fs k (thread_in (slice_get t.scope x)) w
 act job s t fs (call f ps es) k w = with_results s (results_of t.scope es) (call_step s t fs k (slice_get job.program.procs f) ps)
-act job s t fs (run b) k w = go s Plain (Run (record { code = inside b; scope = t.scope; prios = t.prios }) (record { code = k; scope = t.scope; prios = t.prios } ∷ fs))
+act job s t fs (do_block b) k w = go s Plain (Run (record { code = inside b; scope = t.scope; prios = t.prios }) (record { code = k; scope = t.scope; prios = t.prios } ∷ fs))
 act job s t fs input k w = read_step s t fs k (slice_get (inputs_of job.inputs s.path) s.reads)
 act job s t fs (output e) k w = with_result s (result_of t.scope e) (output_step s t fs k)
 
@@ -127,9 +127,9 @@ case_step s t fs a b v = None
 
 abbrev pub run_code : Job → State → Frame → List Frame → Body → Option Outcome' → Option Moved
 run_code job s t fs (bind at a k) w = act job s t fs a k w
-run_code job s t fs (give at e) w = with_result s (result_of t.scope e) (back_to s fs)
-run_code job s t fs (branch at e a b) w = with_result s (result_of t.scope e) (if_step s t fs a b)
-run_code job s t fs (split at e a b) w = with_result s (result_of t.scope e) (case_step s t fs a b)
+run_code job s t fs (ret_tail at e) w = with_result s (result_of t.scope e) (back_to s fs)
+run_code job s t fs (if_tail at e a b) w = with_result s (result_of t.scope e) (if_step s t fs a b)
+run_code job s t fs (case_tail at e a b) w = with_result s (result_of t.scope e) (case_step s t fs a b)
 
 abbrev pub phase_step : Job → State → Phase → Option Outcome' → Option Moved
 phase_step job s (Fresh t) w = go s Start (Run t [])

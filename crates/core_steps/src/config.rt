@@ -7,9 +7,9 @@ ghost use Rattle.priml_syntax.specs.Read.{read_record};
 ghost use Rattle.priml_syntax.specs.declared.record.Record.{Record as TheRecord};
 ghost use Rattle.core_steps.specs.Locals.{read_awaited};
 ghost use Rattle.core_steps.specs.Config.{begin, IsFinished};
-ghost use Rattle.core_steps.specs.Configs.{Advances, AreRecords, IsConfig, IsHanded, IsReady, IsTold, IsWait, StandsAt, Stops, all_end, records_from, slots_of, threads_of};
+ghost use Rattle.core_steps.specs.Configs.{Advances, AreRecords, IsConfig, IsNeed, IsReady, SlotNeeds, IsWait, StandsAt, Stops, all_end, records_from, slots_of, threads_of};
 ghost use Rattle.core_steps.specs.Laws.{HasGraph, IsChecked};
-ghost use Rattle.core_steps.specs.Moves.{job_of};
+ghost use Rattle.core_steps.specs.Moves.{read_job};
 ghost use Rattle.core_steps.specs.Steps.{Job as TheJob};
 
 use crate::laws::job_is_checked;
@@ -74,8 +74,8 @@ impl Model for Config {
 impl Config {
     /// The roots alone.
     pub fn start(alloc: Global, job: &Job) -> Result<Config, AllocError>
-        ensures threads { IfOk result (λ c. threads_of (job_of job.now).program c ≡ Some (begin (job_of job.now))) }
-        ensures config { IfOk result (λ c. IsConfig (job_of job.now) c) }
+        ensures threads { IfOk result (λ c. threads_of (read_job job.now).program c ≡ Some (begin (read_job job.now))) }
+        ensures config { IfOk result (λ c. IsConfig (read_job job.now) c) }
     {
         let mut threads = Vec::new(alloc);
         for k in 0..job.roots() {
@@ -94,8 +94,8 @@ impl Config {
 
     /// Whether the thread of the path can make a step: it is there, has not ended and waits on none.
     pub fn ready(&self, job: &Job, path: &Path) -> bool
-        requires { IsConfig (job_of job.now) self.now }
-        ensures { IsReady (job_of job.now) (slots_of self.now) path.now result }
+        requires { IsConfig (read_job job.now) self.now }
+        ensures { IsReady (read_job job.now) (slots_of self.now) path.now result }
     {
         job_is_checked(job);
         match find(&self.threads, path, self.near) {
@@ -110,8 +110,8 @@ impl Config {
 
     /// The thread on which that of the path waits; None exactly where there is none.
     pub fn waits_on(&self, job: &Job, path: &Path) -> Option<&Path>
-        requires { IsConfig (job_of job.now) self.now }
-        ensures { IsWait (job_of job.now) (slots_of self.now) path.now (option_copied result) }
+        requires { IsConfig (read_job job.now) self.now }
+        ensures { IsWait (read_job job.now) (slots_of self.now) path.now (option_copied result) }
     {
         match find(&self.threads, path, self.near) {
             Some(slot) => match slot.local.next(job) {
@@ -158,11 +158,11 @@ impl Config {
     /// Makes the next step of the thread of the path, and answers its event. Where there is none the configuration stays as it was;
     /// only where the thread is there and has not ended may memory be wanting.
     pub fn advance(&mut self, alloc: Global, job: &Job, path: &Path) -> Result<Event, CoreStop>
-        requires { IsConfig (job_of job.now) self.old }
-        ensures goes { IfOk result (λ e. Advances (job_of job.now) (slots_of self.old) path.now e (slots_of self.new)) }
-        ensures config { IsConfig (job_of job.now) self.new }
+        requires { IsConfig (read_job job.now) self.old }
+        ensures goes { IfOk result (λ e. Advances (read_job job.now) (slots_of self.old) path.now e (slots_of self.new)) }
+        ensures config { IsConfig (read_job job.now) self.new }
         ensures kept { OnErr result (slots_of self.new ≡ slots_of self.old) }
-        ensures cause { IfErr result (Stops (job_of job.now) (slots_of self.old) path.now) }
+        ensures cause { IfErr result (Stops (read_job job.now) (slots_of self.old) path.now) }
     {
         let Some(at) = place_near(&self.threads, path, self.near) else {
             return Err(CoreStop::NoThread);
@@ -184,11 +184,11 @@ impl Config {
         outcome: Option<&Outcome>,
         join: Option<Path>,
     ) -> Result<Event, AllocError>
-        requires config { IsConfig (job_of job.now) self.old }
+        requires config { IsConfig (read_job job.now) self.old }
         requires there { at < length self.old }
-        requires told { (p : List ℕ) → StandsAt self.old p at → IsTold (job_of job.now) (slots_of self.old) p join (read_awaited outcome) }
-        ensures goes { IfOk result (λ e. (p : List ℕ) → StandsAt self.old p at → Advances (job_of job.now) (slots_of self.old) p e (slots_of self.new)) }
-        ensures config { IsConfig (job_of job.now) self.new }
+        requires told { (p : List ℕ) → StandsAt self.old p at → SlotNeeds (read_job job.now) (slots_of self.old) p join (read_awaited outcome) }
+        ensures goes { IfOk result (λ e. (p : List ℕ) → StandsAt self.old p at → Advances (read_job job.now) (slots_of self.old) p e (slots_of self.new)) }
+        ensures config { IsConfig (read_job job.now) self.new }
         ensures kept { OnErr result (slots_of self.new ≡ slots_of self.old) }
     {
         self.threads.reserve(1)?;
@@ -207,7 +207,7 @@ impl Config {
         at: usize,
     ) -> Result<Option<(Path, Outcome)>, CoreStop>
         requires { at < length self.now }
-        ensures { (p : List ℕ) → StandsAt self.now p at → IsHanded (job_of job.now) (slots_of self.now) p result }
+        ensures { (p : List ℕ) → StandsAt self.now p at → IsNeed (read_job job.now) (slots_of self.now) p result }
     {
         match self.threads[at].local.next(job) {
             Next::Free => Ok(None),

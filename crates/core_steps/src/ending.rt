@@ -1,11 +1,11 @@
 //! The steps that end a block.
 
 ghost use Rattle.std.specs.Prelude.{◌≡◌, ℕ, Some, None, IfOk, OnErr};
-ghost use Rattle.priml_syntax.specs.Tree.{give, branch, split};
+ghost use Rattle.priml_syntax.specs.Tree.{ret_tail, if_tail, case_tail};
 ghost use Rattle.priml_syntax.specs.Read.{read_code, read_tail, read_term};
 ghost use Rattle.core_steps.specs.Fields.{running, read_frame, read_local, read_mode, body_at};
 ghost use Rattle.core_steps.specs.Locals.{MakesTo};
-ghost use Rattle.core_steps.specs.Moves.{CanStep, job_of};
+ghost use Rattle.core_steps.specs.Moves.{CanStep, read_job};
 
 use crate::given::Given;
 use crate::kinds::{Sided, side, truth};
@@ -23,10 +23,10 @@ impl Local {
         job: &Job,
         form: &TailForm,
     ) -> Result<Made, AllocError>
-        requires can { CanStep (job_of job.now) (read_local self.old) None }
+        requires can { CanStep (read_job job.now) (read_local self.old) None }
         requires mode { read_mode self.old.mode ≡ running }
-        requires ending { (at : ℕ) × (body_at (job_of job.now).program (read_frame self.old.top) ≡ Some (read_tail form.now at)) }
-        ensures goes { IfOk result (λ m. MakesTo (job_of job.now) self.old None m self.new) }
+        requires ending { (at : ℕ) × (body_at (read_job job.now).program (read_frame self.old.top) ≡ Some (read_tail form.now at)) }
+        ensures goes { IfOk result (λ m. MakesTo (read_job job.now) self.old None m self.new) }
         ensures steps { self.new.steps ≡ self.old.steps }
         ensures kept { OnErr result (read_local self.new ≡ read_local self.old) }
     {
@@ -39,10 +39,10 @@ impl Local {
 
     // The value of a block goes to the frame below, or ends the thread.
     fn give(&mut self, alloc: Global, job: &Job, expr: &Expr) -> Result<Made, AllocError>
-        requires can { CanStep (job_of job.now) (read_local self.old) None }
+        requires can { CanStep (read_job job.now) (read_local self.old) None }
         requires mode { read_mode self.old.mode ≡ running }
-        requires ending { (at : ℕ) × (body_at (job_of job.now).program (read_frame self.old.top) ≡ Some (give at (read_term expr.now))) }
-        ensures goes { IfOk result (λ m. MakesTo (job_of job.now) self.old None m self.new) }
+        requires ending { (at : ℕ) × (body_at (read_job job.now).program (read_frame self.old.top) ≡ Some (ret_tail at (read_term expr.now))) }
+        ensures goes { IfOk result (λ m. MakesTo (read_job job.now) self.old None m self.new) }
         ensures steps { self.new.steps ≡ self.old.steps }
         ensures kept { OnErr result (read_local self.new ≡ read_local self.old) }
     {
@@ -69,10 +69,10 @@ impl Local {
         a: &Block,
         b: &Block,
     ) -> Result<Made, AllocError>
-        requires can { CanStep (job_of job.now) (read_local self.old) None }
+        requires can { CanStep (read_job job.now) (read_local self.old) None }
         requires mode { read_mode self.old.mode ≡ running }
-        requires ending { (at : ℕ) × (body_at (job_of job.now).program (read_frame self.old.top) ≡ Some (branch at (read_term expr.now) (read_code a.now) (read_code b.now))) }
-        ensures goes { IfOk result (λ m. MakesTo (job_of job.now) self.old None m self.new) }
+        requires ending { (at : ℕ) × (body_at (read_job job.now).program (read_frame self.old.top) ≡ Some (if_tail at (read_term expr.now) (read_code a.now) (read_code b.now))) }
+        ensures goes { IfOk result (λ m. MakesTo (read_job job.now) self.old None m self.new) }
         ensures steps { self.new.steps ≡ self.old.steps }
         ensures kept { OnErr result (read_local self.new ≡ read_local self.old) }
     {
@@ -102,10 +102,10 @@ impl Local {
         a: &Block,
         b: &Block,
     ) -> Result<Made, AllocError>
-        requires can { CanStep (job_of job.now) (read_local self.old) None }
+        requires can { CanStep (read_job job.now) (read_local self.old) None }
         requires mode { read_mode self.old.mode ≡ running }
-        requires ending { (at : ℕ) × (body_at (job_of job.now).program (read_frame self.old.top) ≡ Some (split at (read_term expr.now) (read_code a.now) (read_code b.now))) }
-        ensures goes { IfOk result (λ m. MakesTo (job_of job.now) self.old None m self.new) }
+        requires ending { (at : ℕ) × (body_at (read_job job.now).program (read_frame self.old.top) ≡ Some (case_tail at (read_term expr.now) (read_code a.now) (read_code b.now))) }
+        ensures goes { IfOk result (λ m. MakesTo (read_job job.now) self.old None m self.new) }
         ensures steps { self.new.steps ≡ self.old.steps }
         ensures kept { OnErr result (read_local self.new ≡ read_local self.old) }
     {

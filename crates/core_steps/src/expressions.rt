@@ -5,7 +5,7 @@ ghost use Rattle.std.specs.Option.{unwrap_or};
 ghost use Rattle.priml_syntax.specs.Read.{read_value, read_term, read_outcome};
 ghost use Rattle.priml_syntax.specs.Values.{Value', Outcome', returned, bool_value, int_value, pair_value, left_value, right_value};
 ghost use Rattle.core_steps.specs.Expressions.{result_of, results_of, gave, with_one, with_two, fst_value, snd_value, not_value, op_value};
-ghost use Rattle.core_steps.specs.Results.{AreNumbers, read_result, read_results, collected, with_last, one_with, two_with};
+ghost use Rattle.core_steps.specs.Results.{GiveNumbers, read_result, read_results, collected, with_last, one_with, two_with};
 
 use crate::kinds::number;
 use crate::numbers::{on_numbers, on_truths, truth};
@@ -99,7 +99,7 @@ fn note(fault: &mut Option<FaultKind>, kind: FaultKind)
 
 // The numbers that two expressions are without being evaluated, where both are.
 fn numbers_at(scope: &[Value], a: &Expr, b: &Expr) -> Option<(i64, i64)>
-    ensures { IfSome result (λ x. AreNumbers (map read_value scope.now) (read_term a.now) (read_term b.now) x.0 x.1) }
+    ensures { IfSome result (λ x. GiveNumbers (map read_value scope.now) (read_term a.now) (read_term b.now) x.0 x.1) }
 {
     match (number_at(scope, a), number_at(scope, b)) {
         (Some(m), Some(n)) => Some((m, n)),

@@ -5,7 +5,7 @@ ghost use Rattle.priml_syntax.specs.Tree.{sync};
 ghost use Rattle.priml_syntax.specs.Read.{read_outcome};
 ghost use Rattle.core_steps.specs.Fields.{running, read_frame, read_local, read_mode};
 ghost use Rattle.core_steps.specs.Locals.{IsWaiting, MakesTo};
-ghost use Rattle.core_steps.specs.Moves.{CanStep, IsNext, job_of};
+ghost use Rattle.core_steps.specs.Moves.{CanStep, IsNext, read_job};
 ghost use Rattle.core_steps.specs.Steps.{thread_in as thread_of};
 
 use crate::frame::Coming;
@@ -22,9 +22,9 @@ impl Local {
         job: &Job,
         outcome: &Outcome,
     ) -> Result<Made, AllocError>
-        requires can { CanStep (job_of job.now) (read_local self.old) (Some (read_outcome outcome.now)) }
-        requires waits { IsWaiting (job_of job.now) (read_local self.old) }
-        ensures goes { IfOk result (λ m. MakesTo (job_of job.now) self.old (Some (read_outcome outcome.now)) m self.new) }
+        requires can { CanStep (read_job job.now) (read_local self.old) (Some (read_outcome outcome.now)) }
+        requires waits { IsWaiting (read_job job.now) (read_local self.old) }
+        ensures goes { IfOk result (λ m. MakesTo (read_job job.now) self.old (Some (read_outcome outcome.now)) m self.new) }
         ensures steps { self.new.steps ≡ self.old.steps }
         ensures kept { OnErr result (read_local self.new ≡ read_local self.old) }
     {
@@ -44,11 +44,11 @@ impl Local {
         outcome: &Outcome,
         x: u32,
     ) -> Result<Made, AllocError>
-        requires can { CanStep (job_of job.now) (read_local self.old) (Some (read_outcome outcome.now)) }
+        requires can { CanStep (read_job job.now) (read_local self.old) (Some (read_outcome outcome.now)) }
         requires mode { read_mode self.old.mode ≡ running }
-        requires next { IsNext (job_of job.now).program (read_frame self.old.top) (sync x) }
+        requires next { IsNext (read_job job.now).program (read_frame self.old.top) (sync x) }
         requires small { self.old.top.done < 2 ^ 63 }
-        ensures goes { IfOk result (λ m. MakesTo (job_of job.now) self.old (Some (read_outcome outcome.now)) m self.new) }
+        ensures goes { IfOk result (λ m. MakesTo (read_job job.now) self.old (Some (read_outcome outcome.now)) m self.new) }
         ensures steps { self.new.steps ≡ self.old.steps }
         ensures kept { OnErr result (read_local self.new ≡ read_local self.old) }
     {
@@ -70,12 +70,12 @@ impl Local {
         x: u32,
         path: Path,
     ) -> Result<Made, AllocError>
-        requires can { CanStep (job_of job.now) (read_local self.old) (Some (read_outcome outcome.now)) }
+        requires can { CanStep (read_job job.now) (read_local self.old) (Some (read_outcome outcome.now)) }
         requires mode { read_mode self.old.mode ≡ running }
-        requires next { IsNext (job_of job.now).program (read_frame self.old.top) (sync x) }
+        requires next { IsNext (read_job job.now).program (read_frame self.old.top) (sync x) }
         requires small { self.old.top.done < 2 ^ 63 }
         requires path { thread_of (slice_get (read_frame self.old.top).scope x) ≡ Some path }
-        ensures goes { IfOk result (λ m. MakesTo (job_of job.now) self.old (Some (read_outcome outcome.now)) m self.new) }
+        ensures goes { IfOk result (λ m. MakesTo (read_job job.now) self.old (Some (read_outcome outcome.now)) m self.new) }
         ensures steps { self.new.steps ≡ self.old.steps }
         ensures kept { OnErr result (read_local self.new ≡ read_local self.old) }
     {

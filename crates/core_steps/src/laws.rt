@@ -1,4 +1,4 @@
-ghost use Rattle.core_steps.specs.Moves.{job_of};
+ghost use Rattle.core_steps.specs.Moves.{read_job};
 ghost use Rattle.core_steps.specs.Steps.{Job};
 ghost use Rattle.core_steps.specs.Laws.{CheckedLaws, CoreLaws, IsChecked, MeaningReadsInputs};
 
@@ -21,7 +21,7 @@ pub fn input_law()
 
 /// The program of each job is typable, and in scope.
 pub fn job_is_checked(job: &TheJob)
-    ensures { IsChecked (job_of job.now) }
+    ensures { IsChecked (read_job job.now) }
 {
     let _program = job.checked().program();
 }

@@ -9,9 +9,9 @@ ghost use Rattle.std.specs.Cmp.Lexicographic.{slice_cmp};
 ghost use Rattle.priml_syntax.specs.Read.{read_outcome};
 ghost use Rattle.core_steps.specs.Fields.{read_boxed, read_local};
 ghost use Rattle.core_steps.specs.Locals.{read_awaited};
-ghost use Rattle.core_steps.specs.Configs.{AreSlots, IsEnded, IsTold, SlotsRise, StandsAt, StepsAt, outcome_of as the_outcome, read_slot, slot_added, slot_at, with_slot};
+ghost use Rattle.core_steps.specs.Configs.{AreSlots, IsEnded, SlotNeeds, SlotsRise, StandsAt, StepsAt, outcome_of as the_outcome, read_slot, slot_added, slot_at, with_slot};
 ghost use Rattle.core_steps.specs.declared.slot.Slot.{Slot as TheSlot};
-ghost use Rattle.core_steps.specs.Moves.{job_of};
+ghost use Rattle.core_steps.specs.Moves.{read_job};
 
 use crate::config::CoreStop;
 use crate::local::{Local, Made};
@@ -190,10 +190,10 @@ pub(crate) fn step_at(
     outcome: Option<&Outcome>,
     join: Option<Path>,
 ) -> Result<Made, AllocError>
-    requires slots { AreSlots (job_of job.now) (map read_slot threads.old.items) }
+    requires slots { AreSlots (read_job job.now) (map read_slot threads.old.items) }
     requires there { at < length threads.old.items }
-    requires told { (p : List ℕ) → StandsAt threads.old.items p at → IsTold (job_of job.now) (map read_slot threads.old.items) p join (read_awaited outcome) }
-    ensures goes { IfOk result (λ m. (p : List ℕ) → StandsAt threads.old.items p at → StepsAt (job_of job.now) (map read_slot threads.old.items) p (read_awaited outcome.entry) m (map read_slot threads.new.items)) }
+    requires told { (p : List ℕ) → StandsAt threads.old.items p at → SlotNeeds (read_job job.now) (map read_slot threads.old.items) p join (read_awaited outcome) }
+    ensures goes { IfOk result (λ m. (p : List ℕ) → StandsAt threads.old.items p at → StepsAt (read_job job.now) (map read_slot threads.old.items) p (read_awaited outcome.entry) m (map read_slot threads.new.items)) }
     ensures kept { OnErr result (map read_slot threads.new.items ≡ map read_slot threads.old.items) }
     ensures len { vec_len threads.new ≡ vec_len threads.old }
     ensures room { vec_capacity threads.new ≡ vec_capacity threads.old }

@@ -9,7 +9,7 @@ ghost use Rattle.priml_syntax.specs.declared.record.Record.{Record as TheRecord}
 ghost use Rattle.core_steps.specs.Fields.{read_local, read_mode};
 ghost use Rattle.core_steps.specs.Locals.{IsFed, IsLocal, MakesTo, ended_with, read_awaited};
 ghost use Rattle.core_steps.specs.Configs.{IsCounted, JoinsAt, all_end, entry_from, read_slot, records_from, thread_of};
-ghost use Rattle.core_steps.specs.Moves.{job_of};
+ghost use Rattle.core_steps.specs.Moves.{read_job};
 ghost use Rattle.core_steps.specs.Steps.{root_state};
 
 use crate::local::{Local, Made, Mode};
@@ -35,12 +35,12 @@ impl Slot {
         outcome: Option<&Outcome>,
         join: Option<Path>,
     ) -> Result<Made, AllocError>
-        requires state { IsLocal (job_of job.now) (read_local self.old.local) }
+        requires state { IsLocal (read_job job.now) (read_local self.old.local) }
         requires counted { self.old.local.steps ≡ length self.old.events.items }
         requires live { ended_with (read_mode self.old.local.mode) ≡ None }
-        requires fed { IsFed (job_of job.now) (read_local self.old.local) (read_awaited outcome) }
-        requires joins { JoinsAt (job_of job.now) (read_local self.old.local) join }
-        ensures goes { IfOk result (λ m. MakesTo (job_of job.now) self.old.local (read_awaited outcome.entry) m self.new.local) }
+        requires fed { IsFed (read_job job.now) (read_local self.old.local) (read_awaited outcome) }
+        requires joins { JoinsAt (read_job job.now) (read_local self.old.local) join }
+        ensures goes { IfOk result (λ m. MakesTo (read_job job.now) self.old.local (read_awaited outcome.entry) m self.new.local) }
         ensures events { IfOk result (λ m. self.new.events.items ≡ self.old.events.items ++ m.event ∷ []) }
         ensures steps { OnOk result (self.new.local.steps ≡ self.old.local.steps + 1) }
         ensures kept { OnErr result (read_slot self.new ≡ read_slot self.old) }
@@ -54,8 +54,8 @@ impl Slot {
 
 // The k-th root, which has made no step.
 pub(crate) fn root_slot(alloc: Global, job: &Job, k: u32) -> Result<Slot, AllocError>
-    requires { k < length (job_of job.now).program.mains }
-    ensures root { IfOk result (λ s. option_map (λ m. record { state = root_state m k; events = [] }) (slice_get (job_of job.now).program.mains k) ≡ thread_of (job_of job.now).program (read_slot s)) }
+    requires { k < length (read_job job.now).program.mains }
+    ensures root { IfOk result (λ s. option_map (λ m. record { state = root_state m k; events = [] }) (slice_get (read_job job.now).program.mains k) ≡ thread_of (read_job job.now).program (read_slot s)) }
     ensures counted { IfOk result (λ s. IsCounted (read_slot s)) }
 {
     let local = Local::root_at(alloc, job, k)?;

@@ -8,8 +8,8 @@ ghost use Rattle.cost_graph.specs.Order.{IsTopological, AreMarked};
 ghost use Rattle.cost_graph.specs.Shape.{most_looks, IsShape, IsUnfit, IsFit, IsFirstUnfit};
 
 use crate::graph::Graph;
-use crate::kin::ancestors;
 use crate::order::topological;
+use crate::reachability::ancestors;
 use crate::stop::{Shape, ShapeStop};
 use priority_order::Order;
 use std::alloc::{AllocError, Global};

@@ -8,7 +8,7 @@ use Rattle.std.proofs.Common.{length-drop}
 use Rattle.priml_io.specs.Lines.{is_blank}
 use Rattle.priml_io.specs.Words.{IsDigit}
 use Rattle.inputs_text.specs.PathText.{IsPathText}
-use Rattle.inputs_text.specs.InputLines.{IsNumberText, AreNumbers, words_of, IsCut, Gives, IsInputLine, IsBadLine}
+use Rattle.inputs_text.specs.InputLines.{IsNumberText, AreNumbers, words_of, IsCutAtColon, Gives, IsInputLine, IsBadLine}
 use Rattle.inputs_text.proofs.Pairs.{pairs-one}
 use Rattle.inputs_text.proofs.PathForms.{path-begins, path-one}
 use Rattle.inputs_text.proofs.Numbers.{number-one}
@@ -50,7 +50,7 @@ cut-same (x ∷ a) b (y ∷ c) d e p q =
     (whole, r.1)
 
 -- a line has one first colon at most
-pub cut-one : (line a b c d : List ℕ) → IsCut line a b → IsCut line c d → (a ≡ c) × (b ≡ d)
+pub cut-one : (line a b c d : List ℕ) → IsCutAtColon line a b → IsCutAtColon line c d → (a ≡ c) × (b ≡ d)
 cut-one line a b c d p q = cut-same a b c d (sym p.is ∙ q.is) p.first q.first
 
 numbers-one : (text : List ℕ) (a b : List ℤ) → AreNumbers text a → AreNumbers text b → a ≡ b
@@ -79,16 +79,16 @@ pub bad-uncut : (line : List ℕ) → ¬ IsInputLine line None → All (λ b. b 
 bad-uncut line n p None h = n h
 bad-uncut line n p (Some x) h = no-colon h.before h.after (rw h.cut.is at p)
 
-pub bad-path : (line path numbers : List ℕ) → ¬ IsInputLine line None → IsCut line path numbers → ((p : List ℕ) → ¬ IsPathText 0 path p) → IsBadLine line
+pub bad-path : (line path numbers : List ℕ) → ¬ IsInputLine line None → IsCutAtColon line path numbers → ((p : List ℕ) → ¬ IsPathText 0 path p) → IsBadLine line
 bad-path line path numbers n c b None h = n h
 bad-path line path numbers n c b (Some x) h = b x.0 (rw (cut-one line h.before h.after path numbers h.cut c).0 at h.path_text)
 
-pub bad-numbers : (line path numbers : List ℕ) → ¬ IsInputLine line None → IsCut line path numbers → ((ns : List ℤ) → ¬ AreNumbers numbers ns) → IsBadLine line
+pub bad-numbers : (line path numbers : List ℕ) → ¬ IsInputLine line None → IsCutAtColon line path numbers → ((ns : List ℤ) → ¬ AreNumbers numbers ns) → IsBadLine line
 bad-numbers line path numbers n c b None h = n h
 bad-numbers line path numbers n c b (Some x) h = b x.1 (rw (cut-one line h.before h.after path numbers h.cut c).1 at h.numbers_text)
 
 -- the first colon at place i
-pub cut-at : (line rest : List ℕ) (i : ℕ) → i < length line → slice_index line i ≡ 58 → All (λ b. b ≢ 58) (take i line) → rest ≡ drop (i + 1) line → IsCut line (take i line) rest
+pub cut-at : (line rest : List ℕ) (i : ℕ) → i < length line → slice_index line i ≡ 58 → All (λ b. b ≢ 58) (take i line) → rest ≡ drop (i + 1) line → IsCutAtColon line (take i line) rest
 cut-at line rest i h e p r =
     let split : drop i line ≡ 58 ∷ drop (i + 1) line = rw (drop-cons line i 0, e, add-one) refl in
     record { is = sym (take-append-drop i line) ∙ ap (λ v. take i line ++ v) (split ∙ ap (λ v. 58 ∷ v) (sym r)); first = p }

@@ -11,7 +11,7 @@ use Rattle.priml_syntax.specs.Inputs.{IsNoneOf}
 use Rattle.inputs_text.specs.declared.inputs.InputFault.{InputFault}
 use Rattle.inputs_text.specs.declared.inputs.InputFault.TheVariants as fault
 use Rattle.inputs_text.specs.PathText.{Pairwise, IsPartText, IsPathText, between_dots}
-use Rattle.inputs_text.specs.InputLines.{IsValue, IsNegated, IsNumberText, AreNumbers, words_of, IsComment, IsCut, IsInputLine, IsBadLine}
+use Rattle.inputs_text.specs.InputLines.{IsValue, IsNegated, IsNumberText, AreNumbers, words_of, IsComment, IsCutAtColon, IsInputLine, IsBadLine}
 use Rattle.inputs_text.specs.Inputs.{HasPath, IsInputs, IsFirstFault, LinesAreRead}
 use Rattle.inputs_text.proofs.PathForms.{path-refused}
 use Rattle.inputs_text.proofs.LineForms.{bad-uncut, bad-path, bad-numbers}
@@ -102,10 +102,10 @@ numbers_or_none : (text : List ℕ) → ((ns : List ℤ) × AreNumbers text ns) 
 numbers_or_none text = pairs_or_none IsNumberText number_or_none (words_of text)
 
 -- the first colon of a line, or that it has none
-pub cut_or_none : (line : List ℕ) → ((path : List ℕ) × (numbers : List ℕ) × IsCut line path numbers) ⊎ All (λ b. b ≢ 58) line
+pub cut_or_none : (line : List ℕ) → ((path : List ℕ) × (numbers : List ℕ) × IsCutAtColon line path numbers) ⊎ All (λ b. b ≢ 58) line
 cut_or_none [] = inr (All-nil (λ b. b ≢ 58))
 cut_or_none (b ∷ bs) = go (equal_or_not b 58) (cut_or_none bs) where
-  go : (b ≡ 58) ⊎ (b ≢ 58) → ((path : List ℕ) × (numbers : List ℕ) × IsCut bs path numbers) ⊎ All (λ x. x ≢ 58) bs → ((path : List ℕ) × (numbers : List ℕ) × IsCut (b ∷ bs) path numbers) ⊎ All (λ x. x ≢ 58) (b ∷ bs)
+  go : (b ≡ 58) ⊎ (b ≢ 58) → ((path : List ℕ) × (numbers : List ℕ) × IsCutAtColon bs path numbers) ⊎ All (λ x. x ≢ 58) bs → ((path : List ℕ) × (numbers : List ℕ) × IsCutAtColon (b ∷ bs) path numbers) ⊎ All (λ x. x ≢ 58) (b ∷ bs)
   go (inl e) rest = inl ([], bs, record { is = ap (λ v. v ∷ bs) e; first = All-nil (λ x. x ≢ 58) })
   go (inr n) (inl c) = inl (b ∷ c.0, c.1, record { is = ap (λ v. b ∷ v) c.2.is; first = All-cons (λ x. x ≢ 58) b c.0 n c.2.first })
   go (inr n) (inr none) = inr (All-cons (λ x. x ≢ 58) b bs n none)
@@ -117,12 +117,12 @@ comment_or_not (b ∷ bs) = elim (equal_or_not b 35) [ inl e ↦ inl (ap Some e)
 -- what a line says, or that it says nothing right
 form_or_bad : (line : List ℕ) → ((form : Option (List ℕ × List ℤ)) × IsInputLine line form) ⊎ IsBadLine line
 form_or_bad line = go (either_or_not (true_or_not (list_all is_blank line)) (comment_or_not line)) (cut_or_none line) where
-  given : ¬ IsInputLine line None → (path numbers : List ℕ) → IsCut line path numbers → ((p : List ℕ) × IsPathText 0 path p) ⊎ ((p : List ℕ) → ¬ IsPathText 0 path p) → ((ns : List ℤ) × AreNumbers numbers ns) ⊎ ((ns : List ℤ) → ¬ AreNumbers numbers ns) → ((form : Option (List ℕ × List ℤ)) × IsInputLine line form) ⊎ IsBadLine line
+  given : ¬ IsInputLine line None → (path numbers : List ℕ) → IsCutAtColon line path numbers → ((p : List ℕ) × IsPathText 0 path p) ⊎ ((p : List ℕ) → ¬ IsPathText 0 path p) → ((ns : List ℤ) × AreNumbers numbers ns) ⊎ ((ns : List ℤ) → ¬ AreNumbers numbers ns) → ((form : Option (List ℕ × List ℤ)) × IsInputLine line form) ⊎ IsBadLine line
   given n path numbers c (inr none) ns = inr (bad-path line path numbers n c none)
   given n path numbers c (inl p) (inr none) = inr (bad-numbers line path numbers n c none)
   given n path numbers c (inl p) (inl ns) = inl (Some (p.0, ns.0), record { before = path; after = numbers; cut = c; path_text = p.1; numbers_text = ns.1 })
 
-  go : IsInputLine line None ⊎ ¬ IsInputLine line None → ((path : List ℕ) × (numbers : List ℕ) × IsCut line path numbers) ⊎ All (λ b. b ≢ 58) line → ((form : Option (List ℕ × List ℤ)) × IsInputLine line form) ⊎ IsBadLine line
+  go : IsInputLine line None ⊎ ¬ IsInputLine line None → ((path : List ℕ) × (numbers : List ℕ) × IsCutAtColon line path numbers) ⊎ All (λ b. b ≢ 58) line → ((form : Option (List ℕ × List ℤ)) × IsInputLine line form) ⊎ IsBadLine line
   go (inl h) c = inl (None, h)
   go (inr n) (inr none) = inr (bad-uncut line n none)
   go (inr n) (inl c) = given n c.0 c.1 c.2 (path_or_none 0 c.0) (numbers_or_none c.1)

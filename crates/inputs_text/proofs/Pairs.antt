@@ -37,21 +37,21 @@ pairs-one R one (x ∷ xs) (y ∷ ys) (z ∷ zs) p q =
 
 -- the second list falls into parts as the first does
 pub record Parted {A B : Type 0} (R : A → B → Type 0) (xs : List A) (x : A) (more : List A) (zs : List B) : Type 0 where
-  pub front : List B
+  pub prefix : List B
   pub item : B
   pub back : List B
-  pub is : zs ≡ front ++ item ∷ back
-  pub before : Pairwise R xs front
+  pub is : zs ≡ prefix ++ item ∷ back
+  pub before : Pairwise R xs prefix
   pub here : R x item
   pub after : Pairwise R more back
 
 pub pairs-parted : {A B : Type 0} (R : A → B → Type 0) (xs : List A) (x : A) (more : List A) (zs : List B) → Pairwise R (xs ++ x ∷ more) zs → Parted R xs x more zs
 pairs-parted R [] x more [] p = absurd p
-pairs-parted R [] x more (z ∷ zs) p = record { front = []; item = z; back = zs; is = refl; before = tt; here = p.0; after = p.1 }
+pairs-parted R [] x more (z ∷ zs) p = record { prefix = []; item = z; back = zs; is = refl; before = tt; here = p.0; after = p.1 }
 pairs-parted R (w ∷ xs) x more [] p = absurd p
 pairs-parted R (w ∷ xs) x more (z ∷ zs) p =
     let rest = pairs-parted R xs x more zs p.1 in
-    record { front = z ∷ rest.front; item = rest.item; back = rest.back; is = ap (λ v. z ∷ v) rest.is; before = (p.0, rest.before); here = rest.here; after = rest.after }
+    record { prefix = z ∷ rest.prefix; item = rest.item; back = rest.back; is = ap (λ v. z ∷ v) rest.is; before = (p.0, rest.before); here = rest.here; after = rest.after }
 
 -- one more on both sides, where the first list is read from another
 pub pairs-step : {A B C : Type 0} (R : A → B → Type 0) (v : C → A) (xs : List C) (x : C) (ys zs : List B) (y : B) → Pairwise R (map v xs) ys → R (v x) y → zs ≡ ys ++ y ∷ [] → Pairwise R (map v (xs ++ x ∷ [])) zs

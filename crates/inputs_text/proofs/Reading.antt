@@ -51,18 +51,18 @@ inputs-step v xs x lists later i a = rw (map-append v xs (x ∷ [])) (inputs-mor
 empty-none : (form : Option (List ℕ × List ℤ)) → IsInputLine [] form → form ≡ None
 empty-none form h = line-one [] form None h (inl refl)
 
-present-last : (front back : List (Option (List ℕ × List ℤ))) (form : Option (List ℕ × List ℤ)) → form ≡ None → Pairwise IsInputLine [] back → present (front ++ form ∷ back) ≡ present front
-present-last front [] form e p = ap (λ f. present (front ++ f ∷ [])) e ∙ present-append front (None ∷ []) ∙ append-nil (present front)
-present-last front (x ∷ back) form e p = absurd p
+present-last : (prefix back : List (Option (List ℕ × List ℤ))) (form : Option (List ℕ × List ℤ)) → form ≡ None → Pairwise IsInputLine [] back → present (prefix ++ form ∷ back) ≡ present prefix
+present-last prefix [] form e p = ap (λ f. present (prefix ++ f ∷ [])) e ∙ present-append prefix (None ∷ []) ∙ append-nil (present prefix)
+present-last prefix (x ∷ back) form e p = absurd p
 
 -- an empty text behind the lines gives nothing
 inputs-last : (ls : List (List ℕ)) (lists : List (List ℕ × List ℤ)) → IsInputs (ls ++ [] ∷ []) lists → IsInputs ls lists
 inputs-last ls lists i =
     let parts = pairs-parted IsInputLine ls [] [] i.forms i.each in
     record {
-      forms = parts.front;
+      forms = parts.prefix;
       each = parts.before;
-      gives = i.gives ∙ ap present parts.is ∙ present-last parts.front parts.back parts.item (empty-none parts.item parts.here) parts.after;
+      gives = i.gives ∙ ap present parts.is ∙ present-last parts.prefix parts.back parts.item (empty-none parts.item parts.here) parts.after;
       once = i.once;
     }
 
@@ -147,9 +147,9 @@ fault-clash before line after lists all k (fault.BadLine n) i j w =
 fault-clash before line after lists all k (fault.TwicePath n) i j (e, (given, h, m)) =
     let parts = pairs-parted IsInputLine before line after j.forms j.each in
     let item : parts.item ≡ Some given = line-one line parts.item (Some given) parts.here h in
-    let front : lists ≡ present parts.front = i.gives ∙ ap present (forms-one before i.forms parts.front i.each parts.before) in
-    let whole : all ≡ present parts.front ++ given ∷ present parts.back = j.gives ∙ ap present (parts.is ∙ ap (λ v. parts.front ++ v ∷ parts.back) item) ∙ present-append parts.front (Some given ∷ parts.back) in
-    twice-clash (present parts.front) given (present parts.back) (rw whole at j.once) (rw front at m)
+    let prefix : lists ≡ present parts.prefix = i.gives ∙ ap present (forms-one before i.forms parts.prefix i.each parts.before) in
+    let whole : all ≡ present parts.prefix ++ given ∷ present parts.back = j.gives ∙ ap present (parts.is ∙ ap (λ v. parts.prefix ++ v ∷ parts.back) item) ∙ present-append parts.prefix (Some given ∷ parts.back) in
+    twice-clash (present parts.prefix) given (present parts.back) (rw whole at j.once) (rw prefix at m)
 
 pub inputs-clash : (ls : List (List ℕ)) (all : List (List ℕ × List ℤ)) (f : InputFault) → IsInputs ls all → IsFirstFault ls f → ⊥
 inputs-clash ls all f i h = fault-clash h.before h.line h.after h.lists all (length h.before + 1) f h.right (rw h.is at i) h.wrong

@@ -35,7 +35,7 @@ abbrev pub IsComment : List ℕ → Type 0
 IsComment line = slice_get line 0 ≡ Some 35
 
 -- what stands before the first colon of a line, and what after it
-pub record IsCut (line path numbers : List ℕ) : Type 0 where
+pub record IsCutAtColon (line path numbers : List ℕ) : Type 0 where
   pub is : line ≡ path ++ 58 ∷ numbers
   pub first : All (λ b. b ≢ 58) path
 
@@ -43,7 +43,7 @@ pub record IsCut (line path numbers : List ℕ) : Type 0 where
 pub record Gives (line path : List ℕ) (numbers : List ℤ) : Type 0 where
   pub before : List ℕ
   pub after : List ℕ
-  pub cut : IsCut line before after
+  pub cut : IsCutAtColon line before after
   pub path_text : IsPathText 0 before path
   pub numbers_text : AreNumbers after numbers
 

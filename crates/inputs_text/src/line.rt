@@ -1,7 +1,7 @@
 //! One line of the inputs.
 ghost use Rattle.std.specs.Prelude.{◌≡◌, ◌≢◌, List, ℕ, ℤ, None, All, IfOk, MatchOption, MatchBool};
 ghost use Rattle.inputs_text.specs.PathText.{IsPathText};
-ghost use Rattle.inputs_text.specs.InputLines.{IsValue, IsNegated, IsNumberText, AreNumbers, IsInputLine, IsCut};
+ghost use Rattle.inputs_text.specs.InputLines.{IsValue, IsNegated, IsNumberText, AreNumbers, IsInputLine, IsCutAtColon};
 ghost use Rattle.inputs_text.specs.Forms.{HasForm};
 
 use crate::path::read_path;
@@ -54,7 +54,7 @@ fn says_nothing(line: &[u8]) -> bool
 
 /// What stands before the first colon, and what after it; None where there is no colon.
 pub fn cut(line: &[u8]) -> Option<(&[u8], &[u8])>
-    ensures { MatchOption result (All (λ b. b ≢ 58) line.now) (λ p. IsCut line.now p.0.now p.1.now) }
+    ensures { MatchOption result (All (λ b. b ≢ 58) line.now) (λ p. IsCutAtColon line.now p.0.now p.1.now) }
 {
     for i in 0..line.len() {
         if line[i] == b':' {

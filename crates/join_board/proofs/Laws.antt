@@ -6,7 +6,7 @@ use Rattle.priml_syntax.specs.declared.event.Event.{Event}
 use Rattle.priml_syntax.specs.declared.event.Event.TheVariants.{Start, Plain, Spawn, Join, Read, Wrote, End}
 use Rattle.priml_syntax.specs.Events.{spawns, ends, one_end, AllJoins}
 use Rattle.priml_syntax.specs.Values.{Outcome'}
-use Rattle.core_steps.specs.Config.{Thread, thread_at, Reached}
+use Rattle.core_steps.specs.Config.{Thread, thread_by_path, Reached}
 use Rattle.core_steps.specs.Determined.{EndsWith, Trace, here, next, events_in, events_of, IsIn, HasEnded, steps_of, one_live, unended}
 use Rattle.core_steps.specs.Steps.{Job, State, outcome_in}
 use Rattle.core_steps.specs.Laws.{CoreLaws, Grown}
@@ -42,7 +42,7 @@ ended_snoc [] e = refl
 ended_snoc (x ∷ []) e = refl
 ended_snoc (x ∷ y ∷ fs) e = ended_snoc (y ∷ fs) e
 
-pub outcome_found : (c : List Thread) (p : List ℕ) (t : Thread) → thread_at c p ≡ Some t → outcome_at c p ≡ outcome_in t.state.phase
+pub outcome_found : (c : List Thread) (p : List ℕ) (t : Thread) → thread_by_path c p ≡ Some t → outcome_at c p ≡ outcome_in t.state.phase
 outcome_found c p t e = ap (λ (x : Option Thread). option_and_then (λ (u : Thread). outcome_in u.state.phase) x) e
 
 -- a thread has ended in the configuration exactly where its events end in End

@@ -6,12 +6,12 @@ use Rattle.priml_syntax.specs.declared.event.Event.TheVariants.{Spawn, End}
 use Rattle.priml_syntax.specs.Values.{Outcome'}
 use Rattle.priml_syntax.specs.Paths.{child_path}
 use Rattle.core_steps.specs.Steps.{Job, State, Ran, outcome_in}
-use Rattle.core_steps.specs.Config.{Thread, thread_at}
+use Rattle.core_steps.specs.Config.{Thread, thread_by_path}
 use Rattle.core_steps.specs.Determined.{Determined}
 
 -- how the thread has ended in the configuration, where it has
 abbrev pub outcome_at : List Thread → List ℕ → Option Outcome'
-outcome_at c p = option_and_then (λ (t : Thread). outcome_in t.state.phase) (thread_at c p)
+outcome_at c p = option_and_then (λ (t : Thread). outcome_in t.state.phase) (thread_by_path c p)
 
 -- the thread of the job has this priority
 abbrev pub PrioOf : Job → List ℕ → ℕ → Type 0

@@ -1,7 +1,7 @@
 //! The table, and what it begins with.
 ghost use Rattle.std.specs.Prelude.{◌≡◌, ◌+◌, ◌<◌, ◌≤◌, ◌^◌, ◌++◌, [], ◌∷◌, Some, IfOk, OnOk, ℕ, List, length, map, replicate};
 ghost use Rattle.core_steps.specs.Fields.{read_local};
-ghost use Rattle.core_steps.specs.Moves.{job_of};
+ghost use Rattle.core_steps.specs.Moves.{read_job};
 ghost use Rattle.join_board.specs.Entries.{Entry};
 ghost use Rattle.join_board.specs.Jobs.{the_job};
 ghost use Rattle.join_board.specs.Openings.{FirstShards, IsRooted};
@@ -32,8 +32,8 @@ fn empty_shards(alloc: Global) -> Result<Vec<Shard>, AllocError>
 
 /// The priority of the k-th root.
 fn root_priority(alloc: Global, job: &Job, k: u32) -> Result<u32, AllocError>
-    requires { k < length (job_of job.now).program.mains }
-    ensures { IfOk result (λ a. PrioOf (job_of job.now) (k ∷ []) a) }
+    requires { k < length (read_job job.now).program.mains }
+    ensures { IfOk result (λ a. PrioOf (read_job job.now) (k ∷ []) a) }
 {
     let local = Local::root_at(alloc, job, k)?;
     Ok(priority_of(local))
@@ -47,9 +47,9 @@ fn priority_of(local: Local) -> u32
 
 /// The k-th root gets an entry.
 fn enroll_root(shards: &mut Vec<Shard>, alloc: Global, job: &Job, k: u32) -> Result<(), AllocError>
-    requires root { k < length (job_of job.now).program.mains }
+    requires root { k < length (read_job job.now).program.mains }
     requires deep { length shards.old.items ≡ 64 }
-    ensures { OnOk result (IsRooted (job_of job.now) k shards.old.items shards.new.items) }
+    ensures { OnOk result (IsRooted (read_job job.now) k shards.old.items shards.new.items) }
 {
     let prio = root_priority(alloc, job, k)?;
     let path = Path::root_at(alloc, k)?;
@@ -59,7 +59,7 @@ fn enroll_root(shards: &mut Vec<Shard>, alloc: Global, job: &Job, k: u32) -> Res
 
 /// The shards at the start, with an entry for each root.
 fn first_shards(alloc: Global, job: &Job, about: &About) -> Result<Vec<Shard>, AllocError>
-    requires { the_job about.now ≡ job_of job.now }
+    requires { the_job about.now ≡ read_job job.now }
     ensures { IfOk result (λ v. FirstShards about.now v.items) }
 {
     let mut shards = empty_shards(alloc)?;
@@ -91,7 +91,7 @@ impl Board {
     ) -> Result<(Board, BoardSeat), AllocError>
         requires seats { (0 < seats) × (seats ≤ 16) }
         ensures seat { IfOk result (λ b. IsSeatOf b.0 b.1 × (knows b.1 ≡ newcomer b.0.table.shared.key)) }
-        ensures about { IfOk result (λ b. (the_job b.0.table.shared.key ≡ job_of job.now) × (b.0.table.shared.key.opened ≡ seats) × (b.0.table.shared.key.quantum ≡ quantum) × (b.0.table.shared.key.limit ≡ limit)) }
+        ensures about { IfOk result (λ b. (the_job b.0.table.shared.key ≡ read_job job.now) × (b.0.table.shared.key.opened ≡ seats) × (b.0.table.shared.key.quantum ≡ quantum) × (b.0.table.shared.key.limit ≡ limit)) }
     {
         let room = Vec::with_capacity(alloc, 64)?;
         let about = About {

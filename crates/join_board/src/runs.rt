@@ -1,6 +1,6 @@
 //! Tasks run at a seat.
 ghost use Rattle.std.specs.Prelude.{◌≡◌, ◌<◌, ◌≤◌, IfOk, OnOk, IfSome};
-ghost use Rattle.core_steps.specs.Moves.{job_of};
+ghost use Rattle.core_steps.specs.Moves.{read_job};
 ghost use Rattle.trace_book.specs.Segments.{read_segment};
 ghost use Rattle.task_state.specs.Tasks.{read_task};
 ghost use Rattle.join_board.specs.Handles.{knows};
@@ -33,12 +33,12 @@ impl BoardSeat {
         quantum: u32,
         task: &mut Task,
     ) -> Result<Made, AllocError>
-        requires job { the_job (knows self.now).about ≡ job_of job.now }
+        requires job { the_job (knows self.now).about ≡ read_job job.now }
         requires numbers { (worker < (knows self.now).about.opened) × (0 < quantum) × (quantum ≤ (knows self.now).about.quantum) }
-        requires task { CanRun (job_of job.now) (knows self.now) (read_task task.old) }
-        ensures rest { OnOk result (IsIdle (job_of job.now) (read_task task.new)) }
+        requires task { CanRun (read_job job.now) (knows self.now) (read_task task.old) }
+        ensures rest { OnOk result (IsIdle (read_job job.now) (read_task task.new)) }
         ensures segment { IfOk result (λ m. IfSome m.segment (λ s. LastSteps (knows self.now) (read_task task.new) (read_segment s))) }
-        ensures child { IfOk result (λ m. HasChild (job_of job.now) (read_task task.new) m.halt) }
+        ensures child { IfOk result (λ m. HasChild (read_job job.now) (read_task task.new) m.halt) }
     {
         let halt = task.run(alloc, job, quantum)?;
         let segment = task.segment(worker);

@@ -7,7 +7,7 @@ use Rattle.priml_syntax.specs.Values.{Entry}
 use Rattle.priml_syntax.specs.declared.program.Program.{Program}
 use Rattle.type_rules.specs.Jobs.{WithInputs}
 use Rattle.core_steps.specs.Meaning.{meaning, Finished, Over}
-use Rattle.core_steps.specs.Moves.{job_of as the_job}
+use Rattle.core_steps.specs.Moves.{read_job as the_job}
 use Rattle.core_steps.proofs.SameInputs.{meaning_reads_inputs}
 use Rattle.priml.specs.declared.refusal.Stop.{Stop}
 use Rattle.priml.specs.Chain.{◌⇒◌, Never, layer}
@@ -15,17 +15,17 @@ use Rattle.priml.specs.Layers as the
 use Rattle.priml.specs.Lines.{steps_line}
 use Rattle.priml.specs.Prefixes.{IsChecked, NoRecords, IsRecorded}
 use Rattle.priml.specs.Reply.{Stops, StopsAs}
-use Rattle.priml.specs.Runs.{Inputs, AreAlike, job_of}
+use Rattle.priml.specs.Runs.{Inputs, AreAlike, job_with}
 use Rattle.priml.proofs.Chains.{behind_program, stopped, stopped_behind}
 
 module _ (p : Tree) (i j : Inputs) (alike : AreAlike i j) (most : ℕ) where
-  one_meaning : meaning (job_of p i) most ≡ meaning (job_of p j) most
+  one_meaning : meaning (job_with p i) most ≡ meaning (job_with p j) most
   one_meaning = meaning_reads_inputs p i j alike most
 
-  stops_alike : (e : Stop) → Stops (the.run (job_of p i) most) e → Stops (the.run (job_of p j) most) e
+  stops_alike : (e : Stop) → Stops (the.run (job_with p i) most) e → Stops (the.run (job_with p j) most) e
   stops_alike e = subst (λ m. Stops {F = Unit {0}} (layer (λ rs. m ≡ Finished rs) (λ _. m ≡ Over) 7 (λ _. steps_line)) e) one_meaning
 
-  ran_alike : (rs : List Entry) → meaning (job_of p i) most ≡ Finished rs → meaning (job_of p j) most ≡ Finished rs
+  ran_alike : (rs : List Entry) → meaning (job_with p i) most ≡ Finished rs → meaning (job_with p j) most ≡ Finished rs
   ran_alike rs = subst (λ m. m ≡ Finished rs) one_meaning
 
 -- the records of the run of a checked program on the inputs that were read
@@ -39,5 +39,5 @@ module _ (most : ℕ) (text : List ℕ) (s : Sections) (program : Program) (give
   pub not_ran : (e : Stop) → Stops (the.run (the_job job) most) e → StopsAs (NoRecords most text) e
   not_ran e h =
       let h' = subst (λ (j : WithInputs). Stops (the.run (the_job j) most) e) is h in
-      behind_program text (λ t p. the.inputs t.inputs ⇒ λ i. the.run (job_of p i) most ⇒ λ rs. Never) s (read_program program) e checked
-      (stopped_behind _ _ lists e read (stopped (the.run (job_of (read_program program) lists) most) (λ rs. Never) e (stops_alike (read_program program) given lists alike most e h')))
+      behind_program text (λ t p. the.inputs t.inputs ⇒ λ i. the.run (job_with p i) most ⇒ λ rs. Never) s (read_program program) e checked
+      (stopped_behind _ _ lists e read (stopped (the.run (job_with (read_program program) lists) most) (λ rs. Never) e (stops_alike (read_program program) given lists alike most e h')))

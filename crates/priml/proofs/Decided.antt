@@ -43,7 +43,7 @@ use Rattle.priml.specs.Headline.{Are}
 use Rattle.priml.specs.Laws.{WordsAreAnswered}
 use Rattle.priml.specs.Layers as the
 use Rattle.priml.specs.Prefixes.{IsChecked, IsRecorded, IsGraphed, IsSound}
-use Rattle.priml.specs.Runs.{job_of}
+use Rattle.priml.specs.Runs.{job_with}
 use Rattle.priml.specs.Texts.{ok_text, run_text, report_text}
 use Rattle.priml.proofs.Layered.{Decides, IsSome, layer_decides}
 use Rattle.priml.proofs.Replied.{built_reads, in_range}
@@ -110,7 +110,7 @@ records_decide : (most : ℕ) (input : List ℕ) (rest : Sections → Tree → L
 records_decide most input rest next =
     program_decides input _ λ s p is.
     layer_decides _ _ (inputs.all_read (lines s.inputs)) λ i read.
-    layer_decides _ _ (run_decides (job_of p i) most) λ rs ran.
+    layer_decides _ _ (run_decides (job_with p i) most) λ rs ran.
     next s p rs (record { checked = is; reads = i; read = read; ran = ran })
 
 -- the layers to a cost graph

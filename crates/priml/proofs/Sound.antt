@@ -24,10 +24,10 @@ use Rattle.cost_graph.proofs.Carried.{same_acyclic, same_well_formed}
 use Rattle.cost_graph.proofs.Parts.{AreApart, apart_of}
 use Rattle.cost_graph.proofs.SomeGraph as graphs
 use Rattle.priml.specs.Prefixes.{IsRecorded, IsSound}
-use Rattle.priml.specs.Runs.{Inputs, job_of}
+use Rattle.priml.specs.Runs.{Inputs, job_with}
 
 -- a program that stands for a text and is typable is checked, with whatever its threads read
-pub checked_job : (source : List ℕ) (tree : Tree) (inputs : Inputs) → Stands source tree → Typable tree → laws.IsChecked (job_of tree inputs)
+pub checked_job : (source : List ℕ) (tree : Tree) (inputs : Inputs) → Stands source tree → Typable tree → laws.IsChecked (job_with tree inputs)
 checked_job source tree inputs is typed = record { typable = typed; scoped = scoped_as is.names is.raw tree is.clean is.meant }
 
 declared : (n : ℕ) (rs : List Entry) → Each (λ r. r.prio < n) rs → AllByRecursion (λ (t : Thread). t.priority < n) (map thread_of (parts_of rs))
@@ -36,7 +36,7 @@ declared n (r ∷ rs) h = (h.0, declared n rs h.1)
 
 module _ (most : ℕ) (input : List ℕ) (s : Sections) (p : Tree) (rs : List Entry) (is : IsRecorded most input s p rs) where
   abbrev job : Job
-  job = job_of p is.reads
+  job = job_with p is.reads
 
   checked : laws.IsChecked job
   checked = checked_job s.program p is.reads is.checked.stands is.checked.typable

@@ -10,9 +10,9 @@ use Rattle.cost_graph.specs.Graph.{CostGraph, IsAcyclic, IsWellFormed}
 use Rattle.priml.specs.Chain.{Answer, Never}
 use Rattle.priml.specs.Commands.{WithProgram, WithRecords, WithGraph}
 use Rattle.priml.specs.Layers.{sections, source, typed, inputs, run, graph}
-use Rattle.priml.specs.Runs.{Inputs, job_of}
+use Rattle.priml.specs.Runs.{Inputs, job_with}
 
--- the refusals in front of a typable program
+-- the refusals in prefix of a typable program
 abbrev pub NoProgram : List ℕ → Answer
 NoProgram input = WithProgram input λ s p. Never
 
@@ -22,7 +22,7 @@ pub record IsChecked (input : List ℕ) (s : Sections) (p : Tree) : Type 0 where
   pub stands : (source s.program).makes p
   pub typable : (typed p).makes tt
 
--- the refusals in front of the records of a run
+-- the refusals in prefix of the records of a run
 abbrev pub NoRecords : ℕ → List ℕ → Answer
 NoRecords most input = WithRecords most input λ s p rs. Never
 
@@ -31,9 +31,9 @@ pub record IsRecorded (most : ℕ) (input : List ℕ) (s : Sections) (p : Tree) 
   pub checked : IsChecked input s p
   pub reads : Inputs
   pub read : (inputs s.inputs).makes reads
-  pub ran : (run (job_of p reads) most).makes rs
+  pub ran : (run (job_with p reads) most).makes rs
 
--- the refusals in front of a cost graph
+-- the refusals in prefix of a cost graph
 abbrev pub NoGraph : ℕ → List ℕ → Answer
 NoGraph most input = WithGraph most input λ s p rs g. Never
 

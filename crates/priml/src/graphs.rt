@@ -16,7 +16,7 @@ ghost use Rattle.response_report.specs.Text.{response_lines};
 ghost use Rattle.priml.specs.Commands.{Reports};
 ghost use Rattle.priml.specs.Layers as the;
 ghost use Rattle.priml.specs.Prefixes.{IsSound};
-ghost use Rattle.priml.specs.Reply.{Gives, Stops, Replies};
+ghost use Rattle.priml.specs.Reply.{Hands, Stops, Replies};
 
 use crate::layers::{done, section};
 use crate::refusal::{Stop, flaw_refusal, report_too_large, schedule_stop};
@@ -32,7 +32,7 @@ use std::alloc::{AllocError, Global};
 /// The cost graph of the records.
 pub fn graph(alloc: Global, records: &Records) -> Result<Graph, Stop>
     requires { AreFinished (parts_in records.now) }
-    ensures graph { Gives (the.graph (map read_record records.now)) (λ g. g) result }
+    ensures graph { Hands (the.graph (map read_record records.now)) (λ g. g) result }
     ensures acyclic { IfOk result (λ g. IsAcyclicGraph (parts_in records.now) ↔ IsAcyclic g) }
     ensures well_formed { IfOk result (λ g. (pairs : List (ℕ × ℕ)) → IsWellFormedGraph pairs (parts_in records.now) ↔ IsWellFormed g pairs) }
 {
@@ -46,7 +46,7 @@ pub fn graph(alloc: Global, records: &Records) -> Result<Graph, Stop>
 pub fn plan(alloc: Global, graph: &Graph, order: &Order, cores: u32) -> Result<Schedule, Stop>
     requires sound { IsSound graph.now order.now }
     requires cores { 1 ≤ cores }
-    ensures plan { Gives (the.plan order.now.pairs (length order.now.names) graph.now cores) steps_of result }
+    ensures plan { Hands (the.plan order.now.pairs (length order.now.names) graph.now cores) steps_of result }
     ensures within { IfOk result (λ s. All (λ step. All (λ v. v < vertex_total graph.now) step) (steps_of s)) }
 {
     match the_plan(alloc, graph, order, cores) {
@@ -57,7 +57,7 @@ pub fn plan(alloc: Global, graph: &Graph, order: &Order, cores: u32) -> Result<S
 
 /// The schedule of the section.
 pub fn schedule(alloc: Global, graph: &Graph, text: Option<&[u8]>) -> Result<Schedule, Stop>
-    ensures schedule { Gives (the.schedule graph.now (unwrap_or (bytes_of text.entry) [])) steps_of result }
+    ensures schedule { Hands (the.schedule graph.now (unwrap_or (bytes_of text.entry) [])) steps_of result }
     ensures within { IfOk result (λ s. All (λ step. All (λ v. v < vertex_total graph.now) step) (steps_of s)) }
 {
     match read_schedule(alloc, section(text), graph) {
@@ -77,7 +77,7 @@ pub fn prompt(
     requires sound { IsSound graph order.now }
     requires cores { 1 ≤ cores }
     requires within { All (λ step. All (λ v. v < vertex_total graph) step) (steps_of schedule.now) }
-    ensures prompt { Gives (the.prompt order.now.pairs graph cores (steps_of schedule.now)) (λ _. tt) result }
+    ensures prompt { Hands (the.prompt order.now.pairs graph cores (steps_of schedule.now)) (λ _. tt) result }
     ensures same { IfOk result (λ g. g ≡ graph) }
 {
     match judge(alloc, &graph, order, cores, schedule) {

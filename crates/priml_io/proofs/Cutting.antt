@@ -53,19 +53,19 @@ known-append ls body line k l p = All-append IsKnown ls (line ∷ body) k (All-c
 
 -- what the part before the rest has of the section of this name
 abbrev SoFar : List ℕ → List ℕ → List ℕ → Option (List ℕ) → Type 0
-SoFar input front name None = IsAbsent name (lines front)
-SoFar input front name (Some body) = IsBehind input name body × Stands name (lines front)
+SoFar input prefix name None = IsAbsent name (lines prefix)
+SoFar input prefix name (Some body) = IsBehind input name body × Stands name (lines prefix)
 
 -- The input was cut up to the rest, which begins at this line, into a program and these sections.
 pub record Cutting (input program : List ℕ) (inputs schedule : Option (List ℕ)) (number : ℕ) (rest : List ℕ) : Type 0 where
-  front : List ℕ
-  is : input ≡ front ++ rest
-  ends : (rest ≡ []) ⊎ (IsWhole front × IsMarked rest)
-  number_is : number ≡ 1 + length (lines front)
-  right : AreSections (lines front)
+  prefix : List ℕ
+  is : input ≡ prefix ++ rest
+  ends : (rest ≡ []) ⊎ (IsWhole prefix × IsMarked rest)
+  number_is : number ≡ 1 + length (lines prefix)
+  right : AreSections (lines prefix)
   program_is : IsProgram input program
-  inputs_is : SoFar input front (codes "inputs") inputs
-  schedule_is : SoFar input front (codes "schedule") schedule
+  inputs_is : SoFar input prefix (codes "inputs") inputs
+  schedule_is : SoFar input prefix (codes "schedule") schedule
 
 -- a text is a line, and then a part and what is after it
 pub record Headed (text line body after : List ℕ) : Type 0 where
@@ -116,16 +116,16 @@ marked-row bytes line tail row m = go row.ended where
   go (inl p) = inner line (subst IsMarked (ap (λ v. v ++ tail) p ∙ append_assoc line (10 ∷ []) tail) m)
   go (inr q) = subst IsMarked (ap (λ v. bytes ++ v) q.1 ∙ append-nil bytes ∙ q.0) m
 
-left-whole : (front rest : List ℕ) → (rest ≡ []) ⊎ (IsWhole front × IsMarked rest) → 0 < length rest → IsWhole front × IsMarked rest
-left-whole front rest (inl e) some = absurd (omega (arith, some, ap length e))
-left-whole front rest (inr w) some = w
+left-whole : (prefix rest : List ℕ) → (rest ≡ []) ⊎ (IsWhole prefix × IsMarked rest) → 0 < length rest → IsWhole prefix × IsMarked rest
+left-whole prefix rest (inl e) some = absurd (omega (arith, some, ap length e))
+left-whole prefix rest (inr w) some = w
 
 -- where a cut begins, after the program
 pub cutting-start : (input program after : List ℕ) (n : ℕ) → input ≡ program ++ after → IsPart program after → n ≡ 1 + length (lines program) → Cutting input program None None n after
 cutting-start input program after n is part e =
     let absent = λ (name : List ℕ). plain-absent name (lines program) part.plain in
     record {
-      front = program;
+      prefix = program;
       is = is;
       ends = part.ended;
       number_is = e;
@@ -138,9 +138,9 @@ cutting-start input program after n is part e =
 -- where nothing is left, the input is cut
 pub cutting-end : (input program : List ℕ) (i s : Option (List ℕ)) (n : ℕ) → Cutting input program i s n [] → Cuts input program i s
 cutting-end input program i s n c =
-    let e : lines c.front ≡ lines input = ap lines (sym (append-nil c.front) ∙ sym c.is) in
+    let e : lines c.prefix ≡ lines input = ap lines (sym (append-nil c.prefix) ∙ sym c.is) in
     record { right = subst AreSections e c.right; program_is = c.program_is; inputs_is = section (codes "inputs") i e c.inputs_is; schedule_is = section (codes "schedule") s e c.schedule_is } where
-      section : (name : List ℕ) (o : Option (List ℕ)) → lines c.front ≡ lines input → SoFar input c.front name o → IsSection input name o
+      section : (name : List ℕ) (o : Option (List ℕ)) → lines c.prefix ≡ lines input → SoFar input c.prefix name o → IsSection input name o
       section name None e h = subst (IsAbsent name) e h
       section name (Some body) e h = h.0
 
@@ -150,38 +150,38 @@ cutting-done input program i s n (b ∷ bs) e c = absurd (omega (arith, e))
 
 -- one more section
 module _ (input program : List ℕ) (i s : Option (List ℕ)) (m : ℕ) (rest line body after : List ℕ) (c : Cutting input program i s m rest) (h : Headed rest line body after) (some : 0 < length rest) where
-  before : IsWhole c.front
-  before = (left-whole c.front rest c.ends some).0
+  before : IsWhole c.prefix
+  before = (left-whole c.prefix rest c.ends some).0
 
   long : 0 < length h.bytes
   long = row-some rest h.bytes line h.tail h.row h.is some
 
   further : List ℕ
-  further = c.front ++ (h.bytes ++ body)
+  further = c.prefix ++ (h.bytes ++ body)
 
-  further_lines : lines further ≡ lines c.front ++ line ∷ lines body
+  further_lines : lines further ≡ lines c.prefix ++ line ∷ lines body
   unfolding further
-  further_lines = lines-append c.front (h.bytes ++ body) before ∙ ap (λ v. lines c.front ++ v) (row-lines h.bytes line h.tail body after h.row h.whole long)
+  further_lines = lines-append c.prefix (h.bytes ++ body) before ∙ ap (λ v. lines c.prefix ++ v) (row-lines h.bytes line h.tail body after h.row h.whole long)
 
   further_is : input ≡ further ++ after
   unfolding further
-  further_is = c.is ∙ ap (λ v. c.front ++ v) (h.is ∙ ap (λ v. h.bytes ++ v) h.whole ∙ sym (append_assoc h.bytes body after)) ∙ sym (append_assoc c.front (h.bytes ++ body) after)
+  further_is = c.is ∙ ap (λ v. c.prefix ++ v) (h.is ∙ ap (λ v. h.bytes ++ v) h.whole ∙ sym (append_assoc h.bytes body after)) ∙ sym (append_assoc c.prefix (h.bytes ++ body) after)
 
   further_ends : (after ≡ []) ⊎ (IsWhole body × IsMarked after) → (after ≡ []) ⊎ (IsWhole further × IsMarked after)
   unfolding further
   further_ends (inl e) = inl e
   further_ends (inr (w, k)) =
       let more : 0 < length h.tail = omega (arith, marked-some after k, ap length h.whole, length-append body after) in
-      inr (whole-append c.front (h.bytes ++ body) before (whole-append h.bytes body (row-whole h.bytes line h.tail h.row more) w), k)
+      inr (whole-append c.prefix (h.bytes ++ body) before (whole-append h.bytes body (row-whole h.bytes line h.tail h.row more) w), k)
 
   further_behind : (name : List ℕ) → IsHeading name line → IsBehind input name body
   further_behind name heading =
       record {
-        front = c.front;
+        prefix = c.prefix;
         bytes = h.bytes;
         line = line;
         after = after;
-        is = c.is ∙ ap (λ v. c.front ++ v) (h.is ∙ ap (λ v. h.bytes ++ v) h.whole);
+        is = c.is ∙ ap (λ v. c.prefix ++ v) (h.is ∙ ap (λ v. h.bytes ++ v) h.whole);
         whole = before;
         row = subst (IsRow h.bytes line) h.whole h.row;
         heading = heading;
@@ -189,27 +189,27 @@ module _ (input program : List ℕ) (i s : Option (List ℕ)) (m : ℕ) (rest li
       }
 
   new_so_far : (name : List ℕ) → IsHeading name line → SoFar input further name (Some body)
-  new_so_far name heading = (further_behind name heading, (lines c.front, line, lines body, further_lines, heading))
+  new_so_far name heading = (further_behind name heading, (lines c.prefix, line, lines body, further_lines, heading))
 
-  other_so_far : (name : List ℕ) (o : Option (List ℕ)) → ¬ IsHeading name line → SoFar input c.front name o → SoFar input further name o
-  other_so_far name None n a = subst (IsAbsent name) (sym further_lines) (All-append (λ v. ¬ IsHeading name v) (lines c.front) (line ∷ lines body) a (other_absent (lines c.front) (lines body) line h.part.plain name n))
-  other_so_far name (Some b) n a = (a.0, subst (Stands name) (sym further_lines) (stands-append name (lines c.front) (line ∷ lines body) a.1))
+  other_so_far : (name : List ℕ) (o : Option (List ℕ)) → ¬ IsHeading name line → SoFar input c.prefix name o → SoFar input further name o
+  other_so_far name None n a = subst (IsAbsent name) (sym further_lines) (All-append (λ v. ¬ IsHeading name v) (lines c.prefix) (line ∷ lines body) a (other_absent (lines c.prefix) (lines body) line h.part.plain name n))
+  other_so_far name (Some b) n a = (a.0, subst (Stands name) (sym further_lines) (stands-append name (lines c.prefix) (line ∷ lines body) a.1))
 
   further_number : (n : ℕ) → n ≡ m + 1 + length (lines body) → n ≡ 1 + length (lines further)
-  further_number n e = omega (arith, e, c.number_is, ap length further_lines, length-append (lines c.front) (line ∷ lines body))
+  further_number n e = omega (arith, e, c.number_is, ap length further_lines, length-append (lines c.prefix) (line ∷ lines body))
 
 -- the section `inputs` comes
 pub inputs-next : (input program : List ℕ) (s : Option (List ℕ)) (m n : ℕ) (rest line body after : List ℕ) → Cutting input program None s m rest → Headed rest line body after → 0 < length rest → IsHeading (codes "inputs") line → n ≡ m + 1 + length (lines body) → Cutting input program (Some body) s n after
 inputs-next input program s m n rest line body after c h some heading e =
     let other : ¬ IsHeading (codes "schedule") line = λ k. two_headings line heading k in
     let plain = h.part.plain in
-    let right : AreSections (lines c.front ++ line ∷ lines body) = record {
-      known = known-append (lines c.front) (lines body) line c.right.known (λ k. inl heading) plain;
-      inputs = new_once (lines c.front) (lines body) line plain (codes "inputs") c.right.inputs c.inputs_is;
-      schedule = other_once (lines c.front) (lines body) line plain (codes "schedule") c.right.schedule other;
+    let right : AreSections (lines c.prefix ++ line ∷ lines body) = record {
+      known = known-append (lines c.prefix) (lines body) line c.right.known (λ k. inl heading) plain;
+      inputs = new_once (lines c.prefix) (lines body) line plain (codes "inputs") c.right.inputs c.inputs_is;
+      schedule = other_once (lines c.prefix) (lines body) line plain (codes "schedule") c.right.schedule other;
     } in
     record {
-      front = further input program None s m rest line body after c h some;
+      prefix = further input program None s m rest line body after c h some;
       is = further_is input program None s m rest line body after c h some;
       ends = further_ends input program None s m rest line body after c h some h.part.ended;
       number_is = further_number input program None s m rest line body after c h some n e;
@@ -224,13 +224,13 @@ pub schedule-next : (input program : List ℕ) (i : Option (List ℕ)) (m n : �
 schedule-next input program i m n rest line body after c h some heading e =
     let other : ¬ IsHeading (codes "inputs") line = λ k. two_headings line k heading in
     let plain = h.part.plain in
-    let right : AreSections (lines c.front ++ line ∷ lines body) = record {
-      known = known-append (lines c.front) (lines body) line c.right.known (λ k. inr heading) plain;
-      inputs = other_once (lines c.front) (lines body) line plain (codes "inputs") c.right.inputs other;
-      schedule = new_once (lines c.front) (lines body) line plain (codes "schedule") c.right.schedule c.schedule_is;
+    let right : AreSections (lines c.prefix ++ line ∷ lines body) = record {
+      known = known-append (lines c.prefix) (lines body) line c.right.known (λ k. inr heading) plain;
+      inputs = other_once (lines c.prefix) (lines body) line plain (codes "inputs") c.right.inputs other;
+      schedule = new_once (lines c.prefix) (lines body) line plain (codes "schedule") c.right.schedule c.schedule_is;
     } in
     record {
-      front = further input program i None m rest line body after c h some;
+      prefix = further input program i None m rest line body after c h some;
       is = further_is input program i None m rest line body after c h some;
       ends = further_ends input program i None m rest line body after c h some h.part.ended;
       number_is = further_number input program i None m rest line body after c h some n e;
@@ -242,26 +242,26 @@ schedule-next input program i m n rest line body after c h some heading e =
 
 -- the line at which a cut stops
 module _ (input program : List ℕ) (i s : Option (List ℕ)) (n : ℕ) (rest bytes line tail : List ℕ) (c : Cutting input program i s n rest) (row : IsRow bytes line tail) (is : rest ≡ bytes ++ tail) (some : 0 < length rest) where
-  comes : Comes input n (lines c.front) line
+  comes : Comes input n (lines c.prefix) line
   comes =
-      let left = left-whole c.front rest c.ends some in
+      let left = left-whole c.prefix rest c.ends some in
       record {
         after = lines tail;
-        is = ap lines c.is ∙ lines-append c.front rest left.0 ∙ ap (λ v. lines c.front ++ v) (ap lines is ∙ row-lines bytes line tail tail [] row (sym (append-nil tail)) (row-some rest bytes line tail row is some));
+        is = ap lines c.is ∙ lines-append c.prefix rest left.0 ∙ ap (λ v. lines c.prefix ++ v) (ap lines is ∙ row-lines bytes line tail tail [] row (sym (append-nil tail)) (row-some rest bytes line tail row is some));
         number = omega (arith, c.number_is);
         right = c.right;
         marked = marked-row bytes line tail row (subst IsMarked is left.1);
       }
 
   pub unknown-stops : ¬ IsHeading (codes "inputs") line → ¬ IsHeading (codes "schedule") line → HasSectionFault input (fault.UnknownSection n)
-  unknown-stops p q = (lines c.front, line, comes, p, q)
+  unknown-stops p q = (lines c.prefix, line, comes, p, q)
 
-  stands : (name : List ℕ) (o : Option (List ℕ)) → IsSome o → SoFar input c.front name o → Stands name (lines c.front)
+  stands : (name : List ℕ) (o : Option (List ℕ)) → IsSome o → SoFar input c.prefix name o → Stands name (lines c.prefix)
   stands name None e h = absurd (let k : false ≡ true = e in cc)
   stands name (Some body) e h = h.1
 
   pub inputs-stop : IsSome i → IsHeading (codes "inputs") line → HasSectionFault input (fault.TwiceSection n)
-  inputs-stop e h = (lines c.front, line, comes, inl (h, stands (codes "inputs") i e c.inputs_is))
+  inputs-stop e h = (lines c.prefix, line, comes, inl (h, stands (codes "inputs") i e c.inputs_is))
 
   pub schedule-stops : IsSome s → IsHeading (codes "schedule") line → HasSectionFault input (fault.TwiceSection n)
-  schedule-stops e h = (lines c.front, line, comes, inr (h, stands (codes "schedule") s e c.schedule_is))
+  schedule-stops e h = (lines c.prefix, line, comes, inr (h, stands (codes "schedule") s e c.schedule_is))

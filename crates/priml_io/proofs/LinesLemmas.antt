@@ -39,16 +39,16 @@ lines-line line bs p = lines_from-line [] line bs p
 pub lines-last : (b : ℕ) (line : List ℕ) → All (λ b. b ≢ 10) (b ∷ line) → lines (b ∷ line) ≡ (b ∷ line) ∷ []
 lines-last b line p = lines_from-last [] (b ∷ line) p
 
-lines_from-whole : (so_far front back : List ℕ) → lines_from so_far (front ++ 10 ∷ back) ≡ lines_from so_far (front ++ 10 ∷ []) ++ lines back
+lines_from-whole : (so_far prefix back : List ℕ) → lines_from so_far (prefix ++ 10 ∷ back) ≡ lines_from so_far (prefix ++ 10 ∷ []) ++ lines back
 lines_from-whole so_far [] back = refl
-lines_from-whole so_far (b ∷ front) back =
-    let at : Bool → Type 0 = λ t. (if t then so_far ∷ lines_from [] (front ++ 10 ∷ back) else lines_from (so_far ++ b ∷ []) (front ++ 10 ∷ back)) ≡ (if t then so_far ∷ lines_from [] (front ++ 10 ∷ []) else lines_from (so_far ++ b ∷ []) (front ++ 10 ∷ [])) ++ lines back in
-    elim (b == 10) as at [ true ↦ ap (λ v. so_far ∷ v) (lines_from-whole [] front back) | false ↦ lines_from-whole (so_far ++ b ∷ []) front back ]
+lines_from-whole so_far (b ∷ prefix) back =
+    let at : Bool → Type 0 = λ t. (if t then so_far ∷ lines_from [] (prefix ++ 10 ∷ back) else lines_from (so_far ++ b ∷ []) (prefix ++ 10 ∷ back)) ≡ (if t then so_far ∷ lines_from [] (prefix ++ 10 ∷ []) else lines_from (so_far ++ b ∷ []) (prefix ++ 10 ∷ [])) ++ lines back in
+    elim (b == 10) as at [ true ↦ ap (λ v. so_far ∷ v) (lines_from-whole [] prefix back) | false ↦ lines_from-whole (so_far ++ b ∷ []) prefix back ]
 
 -- the lines of a text of whole lines, and then those of what follows
-pub lines-append : (front back : List ℕ) → IsWhole front → lines (front ++ back) ≡ lines front ++ lines back
-lines-append front back (inl e) = rw e refl
-lines-append front back (inr (most, e)) = rw e (ap lines (append_assoc most (10 ∷ []) back) ∙ lines_from-whole [] most back)
+pub lines-append : (prefix back : List ℕ) → IsWhole prefix → lines (prefix ++ back) ≡ lines prefix ++ lines back
+lines-append prefix back (inl e) = rw e refl
+lines-append prefix back (inr (most, e)) = rw e (ap lines (append_assoc most (10 ∷ []) back) ∙ lines_from-whole [] most back)
 
 -- the bytes of one line are one line
 pub lines-row : (bytes line after : List ℕ) → IsRow bytes line after → 0 < length bytes → lines bytes ≡ line ∷ []

@@ -56,33 +56,33 @@ module _ (input name : List ℕ) (once : StandsOnce name (lines input)) where
     go (inl p) = omega (arith, ap length p, length-append line (10 ∷ []))
     go (inr q) = omega (arith, ap length q.0, marked-some line (heading-marked name line h))
 
-  behind-lines : (body : List ℕ) (b : IsBehind input name body) → lines input ≡ lines b.front ++ b.line ∷ lines (body ++ b.after)
+  behind-lines : (body : List ℕ) (b : IsBehind input name body) → lines input ≡ lines b.prefix ++ b.line ∷ lines (body ++ b.after)
   behind-lines body b =
       let tail = body ++ b.after in
-      ap lines b.is ∙ lines-append b.front (b.bytes ++ tail) b.whole
-      ∙ ap (λ v. lines b.front ++ v) (row-lines b.bytes b.line tail tail [] b.row (sym (append-nil tail)) (row-long b.bytes b.line tail b.row b.heading))
+      ap lines b.is ∙ lines-append b.prefix (b.bytes ++ tail) b.whole
+      ∙ ap (λ v. lines b.prefix ++ v) (row-lines b.bytes b.line tail tail [] b.row (sym (append-nil tail)) (row-long b.bytes b.line tail b.row b.heading))
 
   -- the heading of a section stands in one place
-  one-place : (body other : List ℕ) (a : IsBehind input name body) (b : IsBehind input name other) → Places (lines a.front) a.line (lines b.front) b.line → lines a.front ≡ lines b.front
+  one-place : (body other : List ℕ) (a : IsBehind input name body) (b : IsBehind input name other) → Places (lines a.prefix) a.line (lines b.prefix) b.line → lines a.prefix ≡ lines b.prefix
   one-place body other a b (same_place e l) = e
   one-place body other a b (comes_before m e) =
-      absurd (again-clash name (lines b.front) b.line (lines (other ++ b.after)) (subst (StandsOnce name) (behind-lines other b) once) (b.heading, (lines a.front, a.line, m, e, a.heading)))
+      absurd (again-clash name (lines b.prefix) b.line (lines (other ++ b.after)) (subst (StandsOnce name) (behind-lines other b) once) (b.heading, (lines a.prefix, a.line, m, e, a.heading)))
   one-place body other a b (comes_after m e) =
-      absurd (again-clash name (lines a.front) a.line (lines (body ++ a.after)) (subst (StandsOnce name) (behind-lines body a) once) (a.heading, (lines b.front, b.line, m, e, b.heading)))
+      absurd (again-clash name (lines a.prefix) a.line (lines (body ++ a.after)) (subst (StandsOnce name) (behind-lines body a) once) (a.heading, (lines b.prefix, b.line, m, e, b.heading)))
 
   one-behind : (body other : List ℕ) → IsBehind input name body → IsBehind input name other → body ≡ other
   one-behind body other a b =
-      let place = places (lines a.front) a.line (lines (body ++ a.after)) (lines b.front) b.line (lines (other ++ b.after)) (sym (behind-lines body a) ∙ behind-lines other b) in
+      let place = places (lines a.prefix) a.line (lines (body ++ a.after)) (lines b.prefix) b.line (lines (other ++ b.after)) (sym (behind-lines body a) ∙ behind-lines other b) in
       let whole = sym a.is ∙ b.is in
-      let front : a.front ≡ b.front = same_front a.front (a.bytes ++ (body ++ a.after)) b.front (b.bytes ++ (other ++ b.after)) whole a.whole b.whole (ap length (one-place body other a b place)) in
-      let left : a.bytes ++ (body ++ a.after) ≡ b.bytes ++ (other ++ b.after) = append_cancel_left b.front (a.bytes ++ (body ++ a.after)) (b.bytes ++ (other ++ b.after)) (ap (λ v. v ++ (a.bytes ++ (body ++ a.after))) (sym front) ∙ whole) in
+      let prefix : a.prefix ≡ b.prefix = same_front a.prefix (a.bytes ++ (body ++ a.after)) b.prefix (b.bytes ++ (other ++ b.after)) whole a.whole b.whole (ap length (one-place body other a b place)) in
+      let left : a.bytes ++ (body ++ a.after) ≡ b.bytes ++ (other ++ b.after) = append_cancel_left b.prefix (a.bytes ++ (body ++ a.after)) (b.bytes ++ (other ++ b.after)) (ap (λ v. v ++ (a.bytes ++ (body ++ a.after))) (sym prefix) ∙ whole) in
       let row = one_row a.bytes a.line (body ++ a.after) b.bytes b.line (other ++ b.after) left a.row b.row in
       (one_part body a.after other b.after row.2 a.part b.part).0
 
   one-section : (o p : Option (List ℕ)) → IsSection input name o → IsSection input name p → o ≡ p
   one-section None None a b = refl
-  one-section None (Some body) a b = absurd (absent-clash name (lines input) (lines b.front) b.line (lines (body ++ b.after)) (behind-lines body b) b.heading a)
-  one-section (Some body) None a b = absurd (absent-clash name (lines input) (lines a.front) a.line (lines (body ++ a.after)) (behind-lines body a) a.heading b)
+  one-section None (Some body) a b = absurd (absent-clash name (lines input) (lines b.prefix) b.line (lines (body ++ b.after)) (behind-lines body b) b.heading a)
+  one-section (Some body) None a b = absurd (absent-clash name (lines input) (lines a.prefix) a.line (lines (body ++ a.after)) (behind-lines body a) a.heading b)
   one-section (Some body) (Some other) a b = ap Some (one-behind body other a b)
 
 one_program : (input program other : List ℕ) (i s j t : Option (List ℕ)) → Cuts input program i s → Cuts input other j t → program ≡ other

@@ -21,11 +21,11 @@ two_fronts (x ∷ a) b (y ∷ c) d e =
     ]
 
 -- the end of a text of whole lines that a text of whole lines begins
-whole-rest : (front back : List ℕ) → 0 < length back → IsWhole (front ++ back) → IsWhole back
-whole-rest front back some (inl e) = absurd (omega (arith, ap length e, length-append front back))
-whole-rest front back some (inr (most, e)) =
-    let short : length front ≤ length most = omega (arith, ap length e, length-append front back, length-append most (10 ∷ [])) in
-    inr (drop (length front) most, sym (drop-append_seam front back) ∙ ap (λ v. drop (length front) v) e ∙ drop-append-le (length front) most (10 ∷ []) short)
+whole-rest : (prefix back : List ℕ) → 0 < length back → IsWhole (prefix ++ back) → IsWhole back
+whole-rest prefix back some (inl e) = absurd (omega (arith, ap length e, length-append prefix back))
+whole-rest prefix back some (inr (most, e)) =
+    let short : length prefix ≤ length most = omega (arith, ap length e, length-append prefix back, length-append most (10 ∷ [])) in
+    inr (drop (length prefix) most, sym (drop-append_seam prefix back) ∙ ap (λ v. drop (length prefix) v) e ∙ drop-append-le (length prefix) most (10 ∷ []) short)
 
 whole-byte : (b : ℕ) → IsWhole (b ∷ []) → b ≡ 10
 whole-byte b (inl e) = absurd (omega (arith, ap length e))
@@ -33,7 +33,7 @@ whole-byte b (inr ([], e)) = cc
 whole-byte b (inr (x ∷ most, e)) = absurd (omega (arith, ap length e, length-append most (10 ∷ [])))
 
 -- a text of whole lines before a marked one does not end within the mark
-front-marked : (front after : List ℕ) → 0 < length front → IsWhole front → IsMarked (front ++ after) → IsMarked front
+front-marked : (prefix after : List ℕ) → 0 < length prefix → IsWhole prefix → IsMarked (prefix ++ after) → IsMarked prefix
 front-marked [] after some w m = absurd (omega arith)
 front-marked (a ∷ []) after some w m =
     let e : a ≡ 61 = ap (λ v. get_or v 0 0) m in
@@ -41,7 +41,7 @@ front-marked (a ∷ []) after some w m =
 front-marked (a ∷ b ∷ []) after some w m =
     let e : b ≡ 61 = ap (λ v. get_or v 1 0) m in
     absurd (omega (arith, e, whole-byte b (whole-rest (a ∷ []) (b ∷ []) (omega arith) w)))
-front-marked (a ∷ b ∷ c ∷ front) after some w m = m
+front-marked (a ∷ b ∷ c ∷ prefix) after some w m = m
 
 -- a line of which a marked text was read is marked
 marked-read : (line text : List ℕ) → IsMarked line → ¬ All (λ v. ¬ IsMarked v) (lines_from line text)
@@ -66,8 +66,8 @@ marked-line text m all =
 marked-alone : (text after : List ℕ) → after ≡ [] → IsMarked (text ++ after) → IsMarked text
 marked-alone text after e m = rw (e, append-nil text) at m
 
-pub rest-all : (P : List ℕ → Type 0) (front rest : List (List ℕ)) → All P (front ++ rest) → All P rest
-rest-all P front rest all = rw drop-append_seam at (All-drop P (length front) (front ++ rest) all)
+pub rest-all : (P : List ℕ → Type 0) (prefix rest : List (List ℕ)) → All P (prefix ++ rest) → All P rest
+rest-all P prefix rest all = rw drop-append_seam at (All-drop P (length prefix) (prefix ++ rest) all)
 
 -- where a part ends, no longer part ends
 no_longer : (part more after : List ℕ) → IsPart part (more ++ after) → IsPart (part ++ more) after → more ≡ []

@@ -15,15 +15,15 @@ use Rattle.priml_io.proofs.LinesLemmas.{lines-append, lines-row}
 
 -- what was passed of the text, line by line: no line of it is marked
 pub record Passed (text rest : List ℕ) (count : ℕ) : Type 0 where
-  pub front : List ℕ
-  pub is : text ≡ front ++ rest
-  pub count_is : count ≡ length (lines front)
-  pub few : count ≤ length front
-  pub plain : All (λ line. ¬ IsMarked line) (lines front)
-  pub whole : (rest ≡ []) ⊎ IsWhole front
+  pub prefix : List ℕ
+  pub is : text ≡ prefix ++ rest
+  pub count_is : count ≡ length (lines prefix)
+  pub few : count ≤ length prefix
+  pub plain : All (λ line. ¬ IsMarked line) (lines prefix)
+  pub whole : (rest ≡ []) ⊎ IsWhole prefix
 
 pub passed-none : (text : List ℕ) → Passed text text 0
-passed-none text = record { front = []; is = refl; count_is = refl; few = omega arith; plain = All-nil (λ line. ¬ IsMarked line); whole = inr (inl refl) }
+passed-none text = record { prefix = []; is = refl; count_is = refl; few = omega arith; plain = All-nil (λ line. ¬ IsMarked line); whole = inr (inl refl) }
 
 pub marked-append : (line more : List ℕ) → IsMarked line → IsMarked (line ++ more)
 marked-append [] more m = absurd (omega (arith, ap length m))
@@ -43,39 +43,39 @@ plain-row line after bytes row n m =
     let r = row-append line after bytes row in
     n (rw r.1 (marked-append line r.0 m))
 
-whole-row : (front line after bytes : List ℕ) → IsRow bytes line after → (after ≡ []) ⊎ IsWhole (front ++ bytes)
-whole-row front line after bytes row = go row.ended where
-  go : (bytes ≡ line ++ 10 ∷ []) ⊎ ((bytes ≡ line) × (after ≡ [])) → (after ≡ []) ⊎ IsWhole (front ++ bytes)
-  go (inl e) = inr (inr (front ++ line, rw e (sym (append_assoc front line (10 ∷ [])))))
+whole-row : (prefix line after bytes : List ℕ) → IsRow bytes line after → (after ≡ []) ⊎ IsWhole (prefix ++ bytes)
+whole-row prefix line after bytes row = go row.ended where
+  go : (bytes ≡ line ++ 10 ∷ []) ⊎ ((bytes ≡ line) × (after ≡ [])) → (after ≡ []) ⊎ IsWhole (prefix ++ bytes)
+  go (inl e) = inr (inr (prefix ++ line, rw e (sym (append_assoc prefix line (10 ∷ [])))))
   go (inr q) = inl q.1
 
-whole-some : (rest front : List ℕ) → 0 < length rest → (rest ≡ []) ⊎ IsWhole front → IsWhole front
-whole-some rest front some (inl e) = absurd (omega (arith, ap length e))
-whole-some rest front some (inr w) = w
+whole-some : (rest prefix : List ℕ) → 0 < length rest → (rest ≡ []) ⊎ IsWhole prefix → IsWhole prefix
+whole-some rest prefix some (inl e) = absurd (omega (arith, ap length e))
+whole-some rest prefix some (inr w) = w
 
 -- one line more
 pub passed-more : (text rest after line bytes : List ℕ) (count : ℕ) → Passed text rest count → 0 < length rest → ¬ IsMarked rest → rest ≡ bytes ++ after → length after < length rest → IsRow bytes line after → Passed text after (count + 1)
 passed-more text rest after line bytes count p some unmarked e shorter row =
     let long : 0 < length bytes = omega (arith, ap length e, length-append bytes after) in
-    let whole = whole-some rest p.front some p.whole in
-    let is = lines-append p.front bytes whole ∙ ap (λ v. lines p.front ++ v) (lines-row bytes line after row long) in
+    let whole = whole-some rest p.prefix some p.whole in
+    let is = lines-append p.prefix bytes whole ∙ ap (λ v. lines p.prefix ++ v) (lines-row bytes line after row long) in
     let not = plain-row line after bytes row (rw e at unmarked) in
     record {
-      front = p.front ++ bytes;
-      is = p.is ∙ ap (λ v. p.front ++ v) e ∙ sym (append_assoc p.front bytes after);
-      count_is = rw is (omega (arith, length-append (lines p.front) (line ∷ []), p.count_is));
-      few = omega (arith, length-append p.front bytes, p.few);
-      plain = rw is (All-append (λ v. ¬ IsMarked v) (lines p.front) (line ∷ []) p.plain (All-cons (λ v. ¬ IsMarked v) line [] not (All-nil (λ v. ¬ IsMarked v))));
-      whole = whole-row p.front line after bytes row;
+      prefix = p.prefix ++ bytes;
+      is = p.is ∙ ap (λ v. p.prefix ++ v) e ∙ sym (append_assoc p.prefix bytes after);
+      count_is = rw is (omega (arith, length-append (lines p.prefix) (line ∷ []), p.count_is));
+      few = omega (arith, length-append p.prefix bytes, p.few);
+      plain = rw is (All-append (λ v. ¬ IsMarked v) (lines p.prefix) (line ∷ []) p.plain (All-cons (λ v. ¬ IsMarked v) line [] not (All-nil (λ v. ¬ IsMarked v))));
+      whole = whole-row p.prefix line after bytes row;
     }
 
 -- at the end of the text or at a marked line, what was passed is a part
 pub passed-part : (text rest : List ℕ) (count : ℕ) → Passed text rest count → (rest ≡ []) ⊎ IsMarked rest → IsPart (take (length text - length rest) text) rest × (text ≡ take (length text - length rest) text ++ rest) × (count ≡ length (lines (take (length text - length rest) text))) × (count ≤ length (take (length text - length rest) text))
 passed-part text rest count p stop =
-    let n : length text - length rest ≡ length p.front = omega (arith, ap length p.is, length-append p.front rest) in
-    let e : take (length text - length rest) text ≡ p.front = rw (n, p.is) (take-append_seam p.front rest) in
+    let n : length text - length rest ≡ length p.prefix = omega (arith, ap length p.is, length-append p.prefix rest) in
+    let e : take (length text - length rest) text ≡ p.prefix = rw (n, p.is) (take-append_seam p.prefix rest) in
     rw e (record { plain = p.plain; ended = ended stop p.whole }, p.is, p.count_is, p.few) where
-      ended : (rest ≡ []) ⊎ IsMarked rest → (rest ≡ []) ⊎ IsWhole p.front → (rest ≡ []) ⊎ (IsWhole p.front × IsMarked rest)
+      ended : (rest ≡ []) ⊎ IsMarked rest → (rest ≡ []) ⊎ IsWhole p.prefix → (rest ≡ []) ⊎ (IsWhole p.prefix × IsMarked rest)
       ended (inl e) w = inl e
       ended (inr m) (inl e) = inl e
       ended (inr m) (inr w) = inr (w, m)

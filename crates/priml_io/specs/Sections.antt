@@ -43,7 +43,7 @@ pub record IsRow (bytes line after : List ℕ) : Type 0 where
 
 -- a text of whole lines: it is empty or ends in a line feed
 abbrev pub IsWhole : List ℕ → Type 0
-IsWhole text = (text ≡ []) ⊎ ((front : List ℕ) × (text ≡ front ++ 10 ∷ []))
+IsWhole text = (text ≡ []) ⊎ ((prefix : List ℕ) × (text ≡ prefix ++ 10 ∷ []))
 
 -- the program, or the text of a section: no line of it is marked, and it ends where the input ends or where a marked
 -- line begins
@@ -57,12 +57,12 @@ IsProgram input program = (after : List ℕ) × (input ≡ program ++ after) × 
 
 -- some line of the input is the heading of this name, and this text is behind it
 pub record IsBehind (input name body : List ℕ) : Type 0 where
-  pub front : List ℕ
+  pub prefix : List ℕ
   pub bytes : List ℕ
   pub line : List ℕ
   pub after : List ℕ
-  pub is : input ≡ front ++ (bytes ++ (body ++ after))
-  pub whole : IsWhole front
+  pub is : input ≡ prefix ++ (bytes ++ (body ++ after))
+  pub whole : IsWhole prefix
   pub row : IsRow bytes line (body ++ after)
   pub heading : IsHeading name line
   pub part : IsPart body after

@@ -21,7 +21,7 @@ Reads old new limit (Err read.TooLong) = Gave old new (λ n. n ≡ limit + 1)
 Reads old new limit (Err read.ReadFault) = Gave old new (λ n. n ≤ limit)
 Reads old new limit (Err read.OutOfMemory) = Gave old new (λ n. n ≤ limit + 1)
 
--- On Ok the whole piece was appended, else a front of it.
+-- On Ok the whole piece was appended, else a prefix of it.
 abbrev pub Writes : Option (List ℕ) → Option (List ℕ) → List ℕ → Result (Unit {0}) WriteStop → Type 0
 Writes old new piece (Ok _) = Grows old new piece
-Writes old new piece (Err _) = (front : List ℕ) × (rest : List ℕ) × (piece ≡ front ++ rest) × Grows old new front
+Writes old new piece (Err _) = (prefix : List ℕ) × (rest : List ℕ) × (piece ≡ prefix ++ rest) × Grows old new prefix

@@ -16,7 +16,7 @@ pub trait Source {
     /// How many faults there were. The count never falls.
     ghost faults: { Self → ℕ };
 
-    /// Moves bytes to the front of `buf` and returns how many. 0 for a buffer that is not empty is the end.
+    /// Moves bytes to the prefix of `buf` and returns how many. 0 for a buffer that is not empty is the end.
     ///
     /// `Failed` comes only where the count of faults rose in this call, that is where it is greater than before or
     /// stands at the last value of u64. Then no byte was taken.
@@ -34,7 +34,7 @@ pub trait Sink {
     /// How many faults there were. The count never falls.
     ghost faults: { Self → ℕ };
 
-    /// Takes bytes from the front of `piece` and returns how many: at least one, if there is one.
+    /// Takes bytes from the prefix of `piece` and returns how many: at least one, if there is one.
     ///
     /// `Failed` comes only where the count of faults rose in this call, that is where it is greater than before or
     /// stands at the last value of u64. Then no byte was taken.

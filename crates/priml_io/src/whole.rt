@@ -16,7 +16,7 @@ pub enum ReadStop {
     OutOfMemory,
 }
 
-/// Why `write_all` wrote a front of the piece alone.
+/// Why `write_all` wrote a prefix of the piece alone.
 #[derive(Clone, Copy, Debug, PartialEq, Eq)]
 pub enum WriteStop {
     /// The sink failed, with a fault that rose in this call.

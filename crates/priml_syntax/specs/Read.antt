@@ -34,9 +34,9 @@ read_type (ty.Thread' r p a) = tree.thread r (read_type a)
 abbrev pub read_form : ExprForm → ℕ → Term
 read_form (form.Var x) at = tree.var at x
 read_form (form.Int n) at = tree.number at n
-read_form (form.Bool b) at = tree.truth at b
-read_form form.Unit at = tree.nothing at
-read_form (form.Pair' p i a q j b) at = tree.both at (read_form a i) (read_form b j)
+read_form (form.Bool b) at = tree.bool_term at b
+read_form form.Unit at = tree.unit_term at
+read_form (form.Pair' p i a q j b) at = tree.pair_term at (read_form a i) (read_form b j)
 read_form (form.Fst' p i a) at = tree.first at (read_form a i)
 read_form (form.Snd' p i a) at = tree.second at (read_form a i)
 read_form (form.Inl' t p i a) at = tree.left at (read_type t) (read_form a i)
@@ -60,9 +60,9 @@ abbrev mutual
 
   -- the form of an ending, with the place of the ending
   pub read_tail : TailForm → ℕ → Body
-  read_tail (tail.Ret e) at = tree.give at (read_term e)
-  read_tail (tail.If' e p a q b) at = tree.branch at (read_term e) (read_code a) (read_code b)
-  read_tail (tail.Case' e p a q b) at = tree.split at (read_term e) (read_code a) (read_code b)
+  read_tail (tail.Ret e) at = tree.ret_tail at (read_term e)
+  read_tail (tail.If' e p a q b) at = tree.if_tail at (read_term e) (read_code a) (read_code b)
+  read_tail (tail.Case' e p a q b) at = tree.case_tail at (read_term e) (read_code a) (read_code b)
 
   -- an action
   pub read_act : Action → Act
@@ -70,7 +70,7 @@ abbrev mutual
   read_act (action.Spawn' r p b) = tree.spawn r (read_code b)
   read_act (action.Sync h) = tree.sync h
   read_act (action.Call f ps es) = tree.call f ps.items (map read_term es.items)
-  read_act (action.Do' p b) = tree.run (read_code b)
+  read_act (action.Do' p b) = tree.do_block (read_code b)
   read_act action.Input = tree.input
   read_act (action.Output e) = tree.output (read_term e)
 

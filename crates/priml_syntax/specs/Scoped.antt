@@ -3,27 +3,27 @@ use Rattle.std.specs.Prelude.{◌≡◌, ℕ, ◌+◌, ◌<◌, ◌≤◌, List,
 use Rattle.std.specs.List.{All}
 use Rattle.priml_syntax.specs.declared.prio.Prio.{Prio}
 use Rattle.priml_syntax.specs.declared.prio.Prio.TheVariants.{Const, Var}
-use Rattle.priml_syntax.specs.Tree.{Type', unit, bool, int, pair, sum, thread, Term, var, number, truth, nothing, both, first, second, left, right, binary, negated, Code, block, Body, bind, give, branch, split, Act, ret, spawn, sync, call, run, input, output, Constraint, Routine, Tree, Declared}
+use Rattle.priml_syntax.specs.Tree.{Type', unit, bool, int, pair, sum, thread, Term, var, number, bool_term, unit_term, pair_term, first, second, left, right, binary, negated, Code, block, Body, bind, ret_tail, if_tail, case_tail, Act, ret, spawn, sync, call, do_block, input, output, Constraint, Routine, Tree, Declared}
 use Rattle.priml_syntax.specs.Size.{type_nodes}
 
 -- how many priorities are declared, how many priority variables there are, and how many procedures
-pub record Scope : Type 0 where
+pub record NameCounts : Type 0 where
   pub prios : ℕ
   pub vars : ℕ
   pub procs : ℕ
 
 -- a declared priority, or a variable of the procedure
-abbrev pub PrioIn : Scope → Prio → Type 0
+abbrev pub PrioIn : NameCounts → Prio → Type 0
 PrioIn s (Const a) = a < s.prios
 PrioIn s (Var v) = v < s.vars
 
 -- so is each of these priorities
-abbrev pub PriosIn : Scope → List Prio → Type 0
+abbrev pub PriosIn : NameCounts → List Prio → Type 0
 PriosIn s [] = Unit {0}
 PriosIn s (p ∷ ps) = PrioIn s p × PriosIn s ps
 
 -- each priority in the type is in scope
-abbrev pub TypeIn : Scope → Type' → Type 0
+abbrev pub TypeIn : NameCounts → Type' → Type 0
 TypeIn s unit = Unit {0}
 TypeIn s bool = Unit {0}
 TypeIn s int = Unit {0}
@@ -32,16 +32,16 @@ TypeIn s (sum a b) = TypeIn s a × TypeIn s b
 TypeIn s (thread p a) = PrioIn s p × TypeIn s a
 
 -- a type as it is written: in scope, of at most 16 nodes
-abbrev pub Written : Scope → Type' → Type 0
+abbrev pub Written : NameCounts → Type' → Type 0
 Written s t = TypeIn s t × (type_nodes t ≤ 16)
 
 -- each variable is one of the n in scope, and each type is in scope as it is written
-abbrev pub TermIn : Scope → ℕ → Term → Type 0
+abbrev pub TermIn : NameCounts → ℕ → Term → Type 0
 TermIn s n (var at x) = x < n
 TermIn s n (number at z) = Unit {0}
-TermIn s n (truth at b) = Unit {0}
-TermIn s n (nothing at) = Unit {0}
-TermIn s n (both at a b) = TermIn s n a × TermIn s n b
+TermIn s n (bool_term at b) = Unit {0}
+TermIn s n (unit_term at) = Unit {0}
+TermIn s n (pair_term at a b) = TermIn s n a × TermIn s n b
 TermIn s n (first at a) = TermIn s n a
 TermIn s n (second at a) = TermIn s n a
 TermIn s n (left at t a) = Written s t × TermIn s n a
@@ -50,34 +50,34 @@ TermIn s n (binary at op a b) = TermIn s n a × TermIn s n b
 TermIn s n (negated at a) = TermIn s n a
 
 -- so is each of these expressions
-abbrev pub TermsIn : Scope → ℕ → List Term → Type 0
+abbrev pub TermsIn : NameCounts → ℕ → List Term → Type 0
 TermsIn s n [] = Unit {0}
 TermsIn s n (e ∷ es) = TermIn s n e × TermsIn s n es
 
 abbrev mutual
   -- a block with n variables in scope at its beginning
-  pub CodeIn : Code → Scope → ℕ → Type 0
+  pub CodeIn : Code → NameCounts → ℕ → Type 0
   CodeIn (block at b) s n = BodyIn b s n
 
   -- what is left of a block; at most 32 variables are in scope anywhere
-  pub BodyIn : Body → Scope → ℕ → Type 0
+  pub BodyIn : Body → NameCounts → ℕ → Type 0
   BodyIn (bind at a rest) s n = ActIn a s n × (n < 32) × BodyIn rest s (n + 1)
-  BodyIn (give at e) s n = TermIn s n e
-  BodyIn (branch at e a b) s n = TermIn s n e × CodeIn a s n × CodeIn b s n
-  BodyIn (split at e a b) s n = TermIn s n e × (n < 32) × CodeIn a s (n + 1) × CodeIn b s (n + 1)
+  BodyIn (ret_tail at e) s n = TermIn s n e
+  BodyIn (if_tail at e a b) s n = TermIn s n e × CodeIn a s n × CodeIn b s n
+  BodyIn (case_tail at e a b) s n = TermIn s n e × (n < 32) × CodeIn a s (n + 1) × CodeIn b s (n + 1)
 
   -- an action: variables, priorities and procedures are in scope
-  pub ActIn : Act → Scope → ℕ → Type 0
+  pub ActIn : Act → NameCounts → ℕ → Type 0
   ActIn (ret e) s n = TermIn s n e
   ActIn (spawn q c) s n = PrioIn s q × CodeIn c s n
   ActIn (sync x) s n = x < n
   ActIn (call f ps es) s n = (f < s.procs) × PriosIn s ps × TermsIn s n es
-  ActIn (run c) s n = CodeIn c s n
+  ActIn (do_block c) s n = CodeIn c s n
   ActIn input s n = Unit {0}
   ActIn (output e) s n = TermIn s n e
 
 -- the scope of a procedure of the program
-abbrev pub scope_in : Tree → Routine → Scope
+abbrev pub scope_in : Tree → Routine → NameCounts
 scope_in p f = record { prios = length p.names; vars = f.declares.vars; procs = length p.procs }
 
 -- a procedure that keeps its limits, with all that it names in scope

@@ -14,9 +14,9 @@ pub data Type' : Type 0 where
 pub data Term : Type 0 where
   var : ℕ → ℕ → Term
   number : ℕ → ℤ → Term
-  truth : ℕ → Bool → Term
-  nothing : ℕ → Term
-  both : ℕ → Term → Term → Term
+  bool_term : ℕ → Bool → Term
+  unit_term : ℕ → Term
+  pair_term : ℕ → Term → Term → Term
   first second : ℕ → Term → Term
   left right : ℕ → Type' → Term → Term
   binary : ℕ → Op → Term → Term → Term
@@ -30,9 +30,9 @@ mutual
   -- what is left to run in a block: bound actions, and then an ending
   pub data Body : Type 0 where
     bind : ℕ → Act → Body → Body
-    give : ℕ → Term → Body
-    branch : ℕ → Term → Code → Code → Body
-    split : ℕ → Term → Code → Code → Body
+    ret_tail : ℕ → Term → Body
+    if_tail : ℕ → Term → Code → Code → Body
+    case_tail : ℕ → Term → Code → Code → Body
 
   -- what an action does
   pub data Act : Type 0 where
@@ -40,7 +40,7 @@ mutual
     spawn : Prio → Code → Act
     sync : ℕ → Act
     call : ℕ → List Prio → List Term → Act
-    run : Code → Act
+    do_block : Code → Act
     input : Act
     output : Term → Act
 

@@ -6,7 +6,7 @@ use Rattle.std.specs.Prelude.{slice_get, MatchOption, OnOk, IfErr, IfSome}
 use Rattle.std.specs.List.{AllByRecursion, AllZip}
 use Rattle.std.proofs.lemmas.Option.{same_Some}
 use Rattle.type_rules.specs.Jobs.{WithInputs}
-use Rattle.core_steps.specs.Moves.{job_of}
+use Rattle.core_steps.specs.Moves.{read_job}
 use Rattle.task_state.specs.Tasks.{TaskFields, read_task}
 use Rattle.priority_deques.specs.declared.parts.Pick.{Pick}
 use Rattle.priority_deques.specs.Books.{AsBefore, ChangedAt, DequeBook, Gave, Got, Missed, NoneTaken, Picked, Refused, TookOne}
@@ -101,13 +101,13 @@ module _ (job : WithInputs) where
   pub took_keeps : (t : TaskFields) (k : ℕ) (old new : List (List DequeBook)) → IsEndOf job old → ChangedAt (AllZip Missed) (TookOne t) k old new → IsEndOf job new
   took_keeps t k old new h n = ((changed_length (AllZip Missed) (TookOne t) k old new n ∙ h.0.0, h.0.1), changed_each (AllZip Missed) (TookOne t) (AreOfLane job) missed_lane (took_lane t) k old new n h.1)
 
-  fits_there : (t : TaskFields) (k : ℕ) (a : DequeBook) → (a.job ≡ job) × (a.lane ≡ k) → Fits (job_of a.job) a.lane t → Fits (job_of job) k t
-  fits_there t k a h f = subst (λ (z : WithInputs × ℕ). Fits (job_of z.0) z.1 t) (λ i. (h.0 i, h.1 i)) f
+  fits_there : (t : TaskFields) (k : ℕ) (a : DequeBook) → (a.job ≡ job) × (a.lane ≡ k) → Fits (read_job a.job) a.lane t → Fits (read_job job) k t
+  fits_there t k a h f = subst (λ (z : WithInputs × ℕ). Fits (read_job z.0) z.1 t) (λ i. (h.0 i, h.1 i)) f
 
-  pub fits_here : (t : TaskFields) (k : ℕ) (a : DequeBook) → (a.job ≡ job) × (a.lane ≡ k) → Fits (job_of job) k t → Fits (job_of a.job) a.lane t
-  fits_here t k a h f = subst (λ (z : WithInputs × ℕ). Fits (job_of z.0) z.1 t) (λ i. (sym h.0 i, sym h.1 i)) f
+  pub fits_here : (t : TaskFields) (k : ℕ) (a : DequeBook) → (a.job ≡ job) × (a.lane ≡ k) → Fits (read_job job) k t → Fits (read_job a.job) a.lane t
+  fits_here t k a h f = subst (λ (z : WithInputs × ℕ). Fits (read_job z.0) z.1 t) (λ i. (sym h.0 i, sym h.1 i)) f
 
-  gave_fits : (t : TaskFields) (k n : ℕ) (ds es : List DequeBook) → ChangedAt Missed (Gave t) n ds es → AreOfLane job k ds → Fits (job_of job) k t
+  gave_fits : (t : TaskFields) (k n : ℕ) (ds es : List DequeBook) → ChangedAt Missed (Gave t) n ds es → AreOfLane job k ds → Fits (read_job job) k t
   gave_fits t k n [] es h all = absurd h
   gave_fits t k n (a ∷ ds) [] h all = absurd h
   gave_fits t k zero (a ∷ ds) (b ∷ es) h all = fits_there t k a all.0 h.0.1
@@ -149,7 +149,7 @@ module _ (job : WithInputs) where
         ((length-set (map f lanes) k (f e) ∙ h.0.0, h.0.1), each_set (AreOfLane job) (map f lanes) k (f e) (own_lane k d at, all) (λ j x _ q. h.1 j x q))
 
     -- a task that fits the lane fits the end's own deque of it
-    pub fits_own : (t : TaskFields) (k : ℕ) → Fits (job_of job) k t → (d : LaneDeques O B) → slice_get lanes k ≡ Some d → Fits (job_of (own d.own).job) (own d.own).lane t
+    pub fits_own : (t : TaskFields) (k : ℕ) → Fits (read_job job) k t → (d : LaneDeques O B) → slice_get lanes k ≡ Some d → Fits (read_job (own d.own).job) (own d.own).lane t
     fits_own t k f d at = fits_here t k (own d.own) (h.1 k (lane_books own theirs d) (at_mapped (lane_books own theirs) lanes k d at)).0 f
 
     pub lanes_long : length lanes ≡ lane_count job

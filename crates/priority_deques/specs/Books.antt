@@ -2,7 +2,7 @@
 use Rattle.std.specs.Prelude.{◌≡◌, ℕ, zero, suc, ◌<◌, ◌⊎◌, List, [], ◌∷◌, ◌++◌}
 use Rattle.std.specs.List.{AllZip}
 use Rattle.type_rules.specs.Jobs.{WithInputs}
-use Rattle.core_steps.specs.Moves.{job_of}
+use Rattle.core_steps.specs.Moves.{read_job}
 use Rattle.task_state.specs.Tasks.{TaskFields, TaskKey, key_of}
 use Rattle.priority_deques.specs.declared.view.LaneView.{LaneView}
 use Rattle.priority_deques.specs.Tasks.{Fits, IsLaneOf}
@@ -34,7 +34,7 @@ Missed a b = (b ≡ record a { misses = b.misses }) × Rose a.misses b.misses
 
 -- the deque gave the task
 abbrev pub Gave : TaskFields → DequeBook → DequeBook → Type 0
-Gave t a b = (b ≡ record a { taken = a.taken ++ key_of t ∷ [] }) × Fits (job_of a.job) a.lane t
+Gave t a b = (b ≡ record a { taken = a.taken ++ key_of t ∷ [] }) × Fits (read_job a.job) a.lane t
 
 -- the task was put on the deque
 abbrev pub Got : TaskFields → DequeBook → DequeBook → Type 0
@@ -65,12 +65,12 @@ NoneTaken = AllZip (AllZip Missed)
 
 -- a deque of lane k gave the task, which fits that lane; every deque of each lane before it was tried, and gave none
 pub record Picked (job : WithInputs) (k : ℕ) (t : TaskFields) (old new : List (List DequeBook)) : Type 0 where
-  pub fits : Fits (job_of job) k t
+  pub fits : Fits (read_job job) k t
   pub taken : ChangedAt (AllZip Missed) (TookOne t) k old new
 
 -- the first deque of the lane of this priority, which is the end's own, has changed so, and no other has
 abbrev pub OwnChanged : (DequeBook → DequeBook → Type 0) → WithInputs → ℕ → List (List DequeBook) → List (List DequeBook) → Type 0
-OwnChanged S job prio old new = (k : ℕ) × IsLaneOf (job_of job) prio k × ChangedAt AsBefore (ChangedAt AsBefore S 0) k old new
+OwnChanged S job prio old new = (k : ℕ) × IsLaneOf (read_job job) prio k × ChangedAt AsBefore (ChangedAt AsBefore S 0) k old new
 
 -- the task was put on a deque of the lane of its priority
 abbrev pub WasPut : WithInputs → TaskFields → List (List DequeBook) → List (List DequeBook) → Type 0

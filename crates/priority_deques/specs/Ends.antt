@@ -3,12 +3,12 @@ use Rattle.std.specs.Prelude.{◌≡◌, ℕ, ◌≤◌, List, [], length, slice
 use Rattle.std.specs.List.{AllByRecursion}
 use Rattle.type_rules.specs.Jobs.{WithInputs}
 use Rattle.priority_order.specs.Order.{most_names}
-use Rattle.core_steps.specs.Moves.{job_of}
+use Rattle.core_steps.specs.Moves.{read_job}
 use Rattle.priority_deques.specs.Books.{DequeBook}
 
 -- how many priorities the program of the job has, and so how many lanes
 abbrev pub lane_count : WithInputs → ℕ
-lane_count job = length (job_of job).program.names
+lane_count job = length (read_job job).program.names
 
 -- the deques are those of this lane of the job
 abbrev pub AreOfLane : WithInputs → ℕ → List DequeBook → Type 0

@@ -4,7 +4,7 @@ use Rattle.std.specs.List.{AllByRecursion}
 use mathlib.Core.Option.{some}
 use lib.ListN.{get_elem?}
 use Rattle.type_rules.specs.Jobs.{WithInputs}
-use Rattle.core_steps.specs.Moves.{job_of}
+use Rattle.core_steps.specs.Moves.{read_job}
 use Rattle.task_state.specs.declared.task.Task.{Task}
 use Rattle.task_state.specs.Tasks.{TaskKey, key_of, read_task}
 use Rattle.priority_deques.specs.declared.view.LaneView.{LaneView}
@@ -27,7 +27,7 @@ newcomer job lane = record { job = Some job; lane = lane; put = []; taken = [] }
 
 -- the tasks may lie in the lane of the job
 abbrev pub AllFit : WithInputs → ℕ → List Task → Type 0
-AllFit job lane = AllByRecursion (λ t. Fits (job_of job) lane (read_task t))
+AllFit job lane = AllByRecursion (λ t. Fits (read_job job) lane (read_task t))
 
 -- so it is with each pass
 abbrev pub Each : (LaneView → Type 0) → List LaneView → Type 0

@@ -3,7 +3,7 @@ ghost use Rattle.std.specs.Prelude.{◌≡◌, MatchOption, OnOk, IfErr, map};
 ghost use Rattle.std.specs.List.{AllZip};
 ghost use Rattle.task_state.specs.Tasks.{read_task};
 ghost use Rattle.priority_deques.specs.Books.{DequeBook, Missed, Gave, Got, Refused, TookOne};
-ghost use Rattle.core_steps.specs.Moves.{job_of};
+ghost use Rattle.core_steps.specs.Moves.{read_job};
 ghost use Rattle.priority_deques.specs.Tasks.{Fits};
 
 use task_state::Task;
@@ -25,7 +25,7 @@ pub trait OwnBag<X>: Bag<X> {
     /// Puts a task on it. The task comes back only where the count of refusals rose in this call or stands at its last value: the deque
     /// could not grow.
     fn add(&mut self, ctx: &X, task: Task) -> Result<(), Task>
-        requires { Fits (job_of (Self.book self.old).job) (Self.book self.old).lane (read_task task) }
+        requires { Fits (read_job (Self.book self.old).job) (Self.book self.old).lane (read_task task) }
         ensures put { OnOk result (Got (read_task task) (Self.book self.old) (Self.book self.new)) }
         ensures refused { IfErr result (λ t. (t ≡ task) × Refused (Self.book self.old) (Self.book self.new)) };
 }

@@ -1,6 +1,6 @@
 //! Lanes, as a worker sees them.
 ghost use Rattle.std.specs.Prelude.{◌≡◌, OnOk, IfErr, IfNone, IfSome};
-ghost use Rattle.core_steps.specs.Moves.{job_of};
+ghost use Rattle.core_steps.specs.Moves.{read_job};
 ghost use Rattle.task_state.specs.Tasks.{read_task};
 ghost use Rattle.priority_deques.specs.Books.{NoneTaken, Picked, WasPut, WasRefused};
 ghost use Rattle.priority_deques.specs.EndBooks.{shared_books, shared_job, steal_books, steal_job};
@@ -29,7 +29,7 @@ pub trait Lanes: Drop {
     /// Puts a task of the job, which has not ended, has no pending step and was not fed, into the lane of its priority. Where the end's own deque of
     /// that lane refused it, which is want of memory, the task comes back.
     fn put<R: Wait>(&mut self, rt: &R, task: Task) -> Result<(), (Task, AllocError)>
-        requires { IsAtRest (job_of (job self.old)) (read_task task) }
+        requires { IsAtRest (read_job (job self.old)) (read_task task) }
         ensures put { OnOk result (WasPut (job self.old) (read_task task) (books self.old) (books self.new)) }
         ensures refused { IfErr result (λ e. (e.0 ≡ task) × WasRefused (job self.old) (read_task task) (books self.old) (books self.new)) }
         ensures end { (job self.new ≡ job self.old) × IsEndOf (job self.new) (books self.new) };
@@ -61,7 +61,7 @@ impl Lanes for SharedEnd {
 impl StealEnd {
     /// `Lanes::put` without a runtime. It returns.
     pub fn push_task(&mut self, task: Task) -> Result<(), (Task, AllocError)>
-        requires { IsAtRest (job_of (steal_job self.old)) (read_task task) }
+        requires { IsAtRest (read_job (steal_job self.old)) (read_task task) }
         ensures put { OnOk result (WasPut (steal_job self.old) (read_task task) (steal_books self.old) (steal_books self.new)) }
         ensures refused { IfErr result (λ e. (e.0 ≡ task) × WasRefused (steal_job self.old) (read_task task) (steal_books self.old) (steal_books self.new)) }
         ensures end { (steal_job self.new ≡ steal_job self.old) × IsEndOf (steal_job self.new) (steal_books self.new) }

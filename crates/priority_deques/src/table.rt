@@ -1,6 +1,6 @@
 //! The lane of each priority.
 ghost use Rattle.std.specs.Prelude.{◌≡◌, ◌<◌, ◌≤◌, IfOk};
-ghost use Rattle.core_steps.specs.Moves.{job_of};
+ghost use Rattle.core_steps.specs.Moves.{read_job};
 ghost use Rattle.task_state.specs.Tasks.{read_task};
 ghost use Rattle.priority_order.specs.Order.{most_names};
 ghost use Rattle.priority_deques.specs.Ends.{lane_count};
@@ -61,8 +61,8 @@ impl LaneTable {
 
     /// The lane of the task's priority.
     pub fn lane(&self, task: &Task) -> u32
-        requires { IsAtRest (job_of self.now) (read_task task.now) }
-        ensures is { IsLaneOf (job_of self.now) (read_task task.now).local.prio result }
+        requires { IsAtRest (read_job self.now) (read_task task.now) }
+        ensures is { IsLaneOf (read_job self.now) (read_task task.now).local.prio result }
         ensures within { result < lane_count self.now }
     {
         self.lanes[task.priority() as usize]

@@ -5,7 +5,7 @@ ghost use Rattle.task_state.specs.Tasks.{read_task};
 ghost use Rattle.priority_deques.specs.declared.parts.LaneDeques.{LaneDeques as TheDeques};
 ghost use Rattle.priority_deques.specs.Books.{AsBefore, ChangedAt, Got, Missed, NoneTaken, Refused, TookOne};
 ghost use Rattle.priority_deques.specs.Parts.{end_books, lane_books};
-ghost use Rattle.core_steps.specs.Moves.{job_of};
+ghost use Rattle.core_steps.specs.Moves.{read_job};
 ghost use Rattle.priority_deques.specs.Tasks.{Fits};
 
 use crate::bag::{Bag, OwnBag, remove_any};
@@ -58,7 +58,7 @@ pub fn put_into<X, O: OwnBag<X>, B: Bag<X>>(
     task: Task,
 ) -> Result<(), (Task, AllocError)>
     requires lane { lane < length lanes.old.items }
-    requires fits { (d : TheDeques O B) → slice_get lanes.old.items lane ≡ Some d → Fits (job_of (O.book d.own).job) (O.book d.own).lane (read_task task) }
+    requires fits { (d : TheDeques O B) → slice_get lanes.old.items lane ≡ Some d → Fits (read_job (O.book d.own).job) (O.book d.own).lane (read_task task) }
     ensures put { OnOk result (ChangedAt AsBefore (ChangedAt AsBefore (Got (read_task task)) 0) lane (end_books O.book B.book lanes.old.items) (end_books O.book B.book lanes.new.items)) }
     ensures refused { IfErr result (λ e. (e.0 ≡ task) × ChangedAt AsBefore (ChangedAt AsBefore Refused 0) lane (end_books O.book B.book lanes.old.items) (end_books O.book B.book lanes.new.items)) }
 {

@@ -2,7 +2,7 @@
 use Rattle.std.proofs.Common.{◌≡◌, ℕ, List, [], ◌∷◌, ◌++◌, refl, sym, ap, ◌∙◌, subst, ◌⊎◌, inl, inr, arith}
 use Rattle.std.proofs.lemmas.List.Elements.{Contains-push, Contains-push_cases, Contains-append_left}
 use Rattle.std.specs.List.{Contains}
-use Rattle.priority_order.specs.Order.{Pair, Leads, AtMost}
+use Rattle.priority_order.specs.Order.{Pair, IsChain, AtMost}
 
 pub same_at : (ps : List Pair) (a b : ℕ) → a ≡ b → AtMost ps a b
 same_at ps a b e = record { path = []; leads = e }
@@ -10,8 +10,8 @@ same_at ps a b e = record { path = []; leads = e }
 pub reflexive : (ps : List Pair) (a : ℕ) → AtMost ps a a
 reflexive ps a = record { path = []; leads = refl }
 
-append_leads : (ps : List Pair) (a : ℕ) (path : List Pair) (b : ℕ) (more : List Pair) (c : ℕ) → Leads ps a path b → Leads ps b more c → Leads ps a (path ++ more) c
-append_leads ps a [] b more c e h = subst (λ x. Leads ps x more c) (sym e) h
+append_leads : (ps : List Pair) (a : ℕ) (path : List Pair) (b : ℕ) (more : List Pair) (c : ℕ) → IsChain ps a path b → IsChain ps b more c → IsChain ps a (path ++ more) c
+append_leads ps a [] b more c e h = subst (λ x. IsChain ps x more c) (sym e) h
 append_leads ps a (p ∷ path) b more c l h = (l.0, l.1, append_leads ps p.1 path b more c l.2 h)
 
 pub transitive : (ps : List Pair) (a b c : ℕ) → AtMost ps a b → AtMost ps b c → AtMost ps a c
@@ -20,7 +20,7 @@ transitive ps a b c x y = record { path = x.path ++ y.path; leads = append_leads
 pub declared : (ps : List Pair) (a b : ℕ) → Contains ps (a, b) → AtMost ps a b
 declared ps a b h = record { path = (a, b) ∷ []; leads = (h, refl, refl) }
 
-more_leads : (ps qs : List Pair) → ((p : Pair) → Contains ps p → Contains qs p) → (a : ℕ) (path : List Pair) (b : ℕ) → Leads ps a path b → Leads qs a path b
+more_leads : (ps qs : List Pair) → ((p : Pair) → Contains ps p → Contains qs p) → (a : ℕ) (path : List Pair) (b : ℕ) → IsChain ps a path b → IsChain qs a path b
 more_leads ps qs f a [] b e = e
 more_leads ps qs f a (p ∷ path) b l = (f p l.0, l.1, more_leads ps qs f p.1 path b l.2)
 
@@ -37,7 +37,7 @@ pushed_step ps p q x y (inl h) e (inr r) = inr (transitive ps x q.1 p.0 (record 
 pushed_step ps p q x y (inr is) e (inl r) = inr (same_at ps x p.0 (sym e ∙ ap (λ (z : Pair). z.0) (sym is)), subst (λ (z : Pair). AtMost ps z.1 y) (sym is) r)
 pushed_step ps p q x y (inr is) e (inr r) = inr (same_at ps x p.0 (sym e ∙ ap (λ (z : Pair). z.0) (sym is)), r.1)
 
-pushed_leads : (ps : List Pair) (p : Pair) (x : ℕ) (path : List Pair) (y : ℕ) → Leads (ps ++ p ∷ []) x path y → Pushed ps p x y
+pushed_leads : (ps : List Pair) (p : Pair) (x : ℕ) (path : List Pair) (y : ℕ) → IsChain (ps ++ p ∷ []) x path y → Pushed ps p x y
 pushed_leads ps p x [] y e = inl (same_at ps x y e)
 pushed_leads ps p x (q ∷ path) y l = pushed_step ps p q x y (Contains-push_cases ps p q l.0) l.1 (pushed_leads ps p q.1 path y l.2)
 
@@ -66,7 +66,7 @@ push_both ps p anti open_ a b (inr x) (inr y) = absurd (open_ (transitive ps p.1
 pub antisymmetric-push : (ps : List Pair) (p : Pair) → IsAntisymmetric ps → (AtMost ps p.1 p.0 → ⊥) → IsAntisymmetric (ps ++ p ∷ [])
 antisymmetric-push ps p anti open_ a b x y = push_both ps p anti open_ a b (pushed_from ps p a b x) (pushed_from ps p b a y)
 
-empty_leads : (a : ℕ) (path : List Pair) (b : ℕ) → Leads [] a path b → a ≡ b
+empty_leads : (a : ℕ) (path : List Pair) (b : ℕ) → IsChain [] a path b → a ≡ b
 empty_leads a [] b e = e
 empty_leads a (p ∷ path) b l = absurd (omega (arith, l.0.1))
 

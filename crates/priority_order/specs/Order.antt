@@ -12,14 +12,14 @@ abbrev pub Pair : Type 0
 Pair = ℕ × ℕ
 
 -- the pairs of the path are declared and lead, one after another, from a to b
-abbrev pub Leads : List Pair → ℕ → List Pair → ℕ → Type 0
-Leads pairs a [] b = a ≡ b
-Leads pairs a (p ∷ path) b = Contains pairs p × (p.0 ≡ a) × Leads pairs p.1 path b
+abbrev pub IsChain : List Pair → ℕ → List Pair → ℕ → Type 0
+IsChain pairs a [] b = a ≡ b
+IsChain pairs a (p ∷ path) b = Contains pairs p × (p.0 ≡ a) × IsChain pairs p.1 path b
 
 -- a is at most b: a list of declared pairs, perhaps empty, leads from a to b
 pub record AtMost (pairs : List Pair) (a b : ℕ) : Type 0 where
   pub path : List Pair
-  pub leads : Leads pairs a path b
+  pub leads : IsChain pairs a path b
 
 -- a is strictly below b: a is at most b, and they differ
 pub record IsBelow (pairs : List Pair) (a b : ℕ) : Type 0 where

@@ -110,10 +110,10 @@ module _ (g : CostGraph) (below : ℕ → ℕ → Type 0) (cores : ℕ) (steps :
   stands_once i j v lt small once e c =
       let line : List ℕ = step_at steps i in
       let split = sym (concat_append (take (suc i) steps) (drop (suc i) steps)) ∙ ap concat (take-append-drop (suc i) steps) in
-      let front = distinct_left (vertices_before steps (suc i)) (concat (drop (suc i) steps)) (subst (IsDistinct nat_eq) (sym split) once) in
+      let prefix = distinct_left (vertices_before steps (suc i)) (concat (drop (suc i) steps)) (subst (IsDistinct nat_eq) (sym split) once) in
       let halves = before_more steps i lt ∙ ap (λ l. vertices_before steps i ++ l) (sym (take-append-drop j line)) ∙ sym (append_assoc (vertices_before steps i) (take j line) (drop j line)) in
       let late = subst (λ l. Contains l v) (sym (drop-cons line j 0 small)) (subst (λ w. Contains (get_or line j 0 ∷ drop (suc j) line) w) e (member_head (get_or line j 0) (drop (suc j) line))) in
-      distinct_apart (vertices_before steps i ++ take j line) (drop j line) v (subst (IsDistinct nat_eq) halves front) c late
+      distinct_apart (vertices_before steps i ++ take j line) (drop j line) v (subst (IsDistinct nat_eq) halves prefix) c late
 
   pub prompt_no_flaw : (i : ℕ) (kind : FlawKind) → HasFlaw g below cores steps i kind → IsPrompt g below cores steps → ⊥
   prompt_no_flaw i EmptyStep h p = let some = p.valid.filled i h.0 in omega (arith, some, h.1)

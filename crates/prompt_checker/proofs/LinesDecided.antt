@@ -5,7 +5,7 @@ use Rattle.std.specs.List.{Contains}
 use Rattle.std.proofs.lemmas.Bool.{cases_lt}
 use Rattle.priml_io.proofs.Decided.{same_text_or_not}
 use Rattle.inputs_text.specs.PathText.{Pairwise, IsPartText, IsPathText}
-use Rattle.inputs_text.specs.InputLines.{IsCut, words_of}
+use Rattle.inputs_text.specs.InputLines.{IsCutAtColon, words_of}
 use Rattle.inputs_text.proofs.LinesDecided.{part_or_none, path_or_none, cut_or_none}
 use Rattle.inputs_text.proofs.Pairs.{pairs-more}
 use Rattle.cost_graph.specs.Graph.{CostGraph, thread_at, thread_total, first_vertex, IsVertexAt}
@@ -41,12 +41,12 @@ module _ (g : CostGraph) (path : List ℕ) (n : ℕ) where
 -- the form of a word
 named_or_bad : (g : CostGraph) (word : List ℕ) → ((name : Name) × IsVertexText (last_root g) word name) ⊎ IsBadWord g word
 named_or_bad g word = go (cut_or_none word) where
-  made : (front back : List ℕ) → IsCut word front back → ((p : List ℕ) × IsPathText (last_root g) front p) ⊎ ((p : List ℕ) → ¬ IsPathText (last_root g) front p) → ((n : ℕ) × IsPartText back n) ⊎ ((n : ℕ) → ¬ IsPartText back n) → ((name : Name) × IsVertexText (last_root g) word name) ⊎ IsBadWord g word
-  made front back c (inr none) n = inr (no-path g word front back c none)
-  made front back c (inl p) (inr none) = inr (no-number g word front back c none)
-  made front back c (inl p) (inl n) = inl ((p.0, n.0), vertex-made (last_root g) word front back p.0 n.0 c p.1 n.1)
+  made : (prefix back : List ℕ) → IsCutAtColon word prefix back → ((p : List ℕ) × IsPathText (last_root g) prefix p) ⊎ ((p : List ℕ) → ¬ IsPathText (last_root g) prefix p) → ((n : ℕ) × IsPartText back n) ⊎ ((n : ℕ) → ¬ IsPartText back n) → ((name : Name) × IsVertexText (last_root g) word name) ⊎ IsBadWord g word
+  made prefix back c (inr none) n = inr (no-path g word prefix back c none)
+  made prefix back c (inl p) (inr none) = inr (no-number g word prefix back c none)
+  made prefix back c (inl p) (inl n) = inl ((p.0, n.0), vertex-made (last_root g) word prefix back p.0 n.0 c p.1 n.1)
 
-  go : ((path : List ℕ) × (numbers : List ℕ) × IsCut word path numbers) ⊎ All (λ b. b ≢ 58) word → ((name : Name) × IsVertexText (last_root g) word name) ⊎ IsBadWord g word
+  go : ((path : List ℕ) × (numbers : List ℕ) × IsCutAtColon word path numbers) ⊎ All (λ b. b ≢ 58) word → ((name : Name) × IsVertexText (last_root g) word name) ⊎ IsBadWord g word
   go (inr none) = inr (no-cut g word none)
   go (inl c) = made c.0 c.1 c.2 (path_or_none (last_root g) c.0) (part_or_none c.1)
 

@@ -8,7 +8,7 @@ use Rattle.priml_io.specs.Lines.{lines}
 use Rattle.priml_io.specs.Sections.{IsRow}
 use Rattle.priml_io.proofs.LinesLemmas.{lines-line, lines-last}
 use Rattle.inputs_text.specs.PathText.{Pairwise, IsPartText, IsPathText}
-use Rattle.inputs_text.specs.InputLines.{IsCut, words_of}
+use Rattle.inputs_text.specs.InputLines.{IsCutAtColon, words_of}
 use Rattle.inputs_text.proofs.Pairs.{pairs-more, pairs-one, pairs-at, pairs-length, pairs-parted}
 use Rattle.inputs_text.proofs.PathForms.{part-one, path-one}
 use Rattle.inputs_text.proofs.LineForms.{cut-one, no-colon}
@@ -25,22 +25,22 @@ use Rattle.prompt_checker.specs.declared.reader.ScheduleFault.TheVariants.{BadTe
 
 -- what has not the form of a vertex
 pub no-cut : (g : CostGraph) (text : List ℕ) → All (λ b. b ≢ 58) text → IsBadWord g text
-no-cut g text p name h = no-colon h.front h.back (subst (All (λ b. b ≢ 58)) h.cut.is p)
+no-cut g text p name h = no-colon h.prefix h.back (subst (All (λ b. b ≢ 58)) h.cut.is p)
 
-pub no-path : (g : CostGraph) (text front back : List ℕ) → IsCut text front back → ((p : List ℕ) → ¬ IsPathText (last_root g) front p) → IsBadWord g text
-no-path g text front back c b name h = b name.0 (subst (λ t. IsPathText (last_root g) t name.0) (cut-one text h.front h.back front back h.cut c).0 h.path)
+pub no-path : (g : CostGraph) (text prefix back : List ℕ) → IsCutAtColon text prefix back → ((p : List ℕ) → ¬ IsPathText (last_root g) prefix p) → IsBadWord g text
+no-path g text prefix back c b name h = b name.0 (subst (λ t. IsPathText (last_root g) t name.0) (cut-one text h.prefix h.back prefix back h.cut c).0 h.path)
 
-pub no-number : (g : CostGraph) (text front back : List ℕ) → IsCut text front back → ((n : ℕ) → ¬ IsPartText back n) → IsBadWord g text
-no-number g text front back c b name h = b name.1 (subst (λ t. IsPartText t name.1) (cut-one text h.front h.back front back h.cut c).1 h.number)
+pub no-number : (g : CostGraph) (text prefix back : List ℕ) → IsCutAtColon text prefix back → ((n : ℕ) → ¬ IsPartText back n) → IsBadWord g text
+no-number g text prefix back c b name h = b name.1 (subst (λ t. IsPartText t name.1) (cut-one text h.prefix h.back prefix back h.cut c).1 h.number)
 
-pub vertex-made : (last : ℕ) (text front back path : List ℕ) (n : ℕ) → IsCut text front back → IsPathText last front path → IsPartText back n → IsVertexText last text (path, n)
-vertex-made last text front back path n c p k = record { front = front; back = back; cut = c; path = p; number = k }
+pub vertex-made : (last : ℕ) (text prefix back path : List ℕ) (n : ℕ) → IsCutAtColon text prefix back → IsPathText last prefix path → IsPartText back n → IsVertexText last text (path, n)
+vertex-made last text prefix back path n c p k = record { prefix = prefix; back = back; cut = c; path = p; number = k }
 
 -- a text names one vertex at most
 vertex-one : (last : ℕ) (text : List ℕ) (x y : Name) → IsVertexText last text x → IsVertexText last text y → x ≡ y
 vertex-one last text x y g h =
-    let cuts = cut-one text g.front g.back h.front h.back g.cut h.cut in
-    let paths : x.0 ≡ y.0 = path-one last h.front x.0 y.0 (subst (λ t. IsPathText last t x.0) cuts.0 g.path) h.path in
+    let cuts = cut-one text g.prefix g.back h.prefix h.back g.cut h.cut in
+    let paths : x.0 ≡ y.0 = path-one last h.prefix x.0 y.0 (subst (λ t. IsPathText last t x.0) cuts.0 g.path) h.path in
     let numbers : x.1 ≡ y.1 = part-one h.back x.1 y.1 (subst (λ t. IsPartText t x.1) cuts.1 g.number) h.number in
     let P : List ℕ → Name = λ p. (p, x.1) in
     let Q : ℕ → Name = λ n. (y.0, n) in

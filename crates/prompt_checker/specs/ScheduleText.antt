@@ -2,7 +2,7 @@
 use Rattle.std.specs.Prelude.{◌≡◌, ℕ, ◌+◌, ◌-◌, List, ◌∷◌, ◌++◌, length, slice_index}
 use Rattle.std.specs.List.{Contains}
 use Rattle.inputs_text.specs.PathText.{Pairwise, IsPartText, IsPathText}
-use Rattle.inputs_text.specs.InputLines.{IsCut, words_of}
+use Rattle.inputs_text.specs.InputLines.{IsCutAtColon, words_of}
 use Rattle.cost_graph.specs.Graph.{CostGraph, thread_total, thread_at, IsVertexAt}
 use Rattle.prompt_checker.specs.declared.reader.ScheduleFault.{ScheduleFault}
 use Rattle.prompt_checker.specs.declared.reader.ScheduleFault.TheVariants.{BadText, UnknownVertex, OutOfMemory}
@@ -17,10 +17,10 @@ last_root g = slice_index (thread_at g (thread_total g - 1)).path 0
 
 -- a path whose root is at most `last`, a colon and a number: the form of a vertex
 pub record IsVertexText (last : ℕ) (text : List ℕ) (name : Name) : Type 0 where
-  pub front : List ℕ
+  pub prefix : List ℕ
   pub back : List ℕ
-  pub cut : IsCut text front back
-  pub path : IsPathText last front name.0
+  pub cut : IsCutAtColon text prefix back
+  pub path : IsPathText last prefix name.0
   pub number : IsPartText back name.1
 
 -- v is the vertex of the graph with this name

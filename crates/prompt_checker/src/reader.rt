@@ -193,10 +193,10 @@ fn last_root(graph: &Graph) -> u32
 fn read_vertex(alloc: Global, graph: &Graph, text: &[u8]) -> Result<Option<(Path, u32)>, AllocError>
     ensures { IfOk result (λ r. MatchOption r (IsBadWord graph.now text.now) (λ p. IsVertexText (the_last_root graph.now) text.now (p.0, p.1))) }
 {
-    let Some((front, back)) = cut(text) else {
+    let Some((prefix, back)) = cut(text) else {
         return Ok(None);
     };
-    let Some(path) = read_path(alloc, front, last_root(graph))? else {
+    let Some(path) = read_path(alloc, prefix, last_root(graph))? else {
         return Ok(None);
     };
     let Some(number) = read_part(back) else {

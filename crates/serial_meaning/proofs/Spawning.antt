@@ -6,7 +6,7 @@ use Rattle.priml_syntax.specs.declared.event.Event.{Event}
 use Rattle.priml_syntax.specs.declared.event.Event.TheVariants.{Spawn}
 use Rattle.priml_syntax.specs.declared.prio.Prio.{Prio}
 use Rattle.priml_syntax.specs.declared.value.FaultKind.TheVariants.{Depth}
-use Rattle.priml_syntax.specs.Tree.{Code, Body, bind, give, branch, split, Act, ret, spawn, sync, call, run, input, output, Routine}
+use Rattle.priml_syntax.specs.Tree.{Code, Body, bind, ret_tail, if_tail, case_tail, Act, ret, spawn, sync, call, do_block, input, output, Routine}
 use Rattle.priml_syntax.specs.Values.{Value', bool_value, int_value, left_value, right_value, Outcome', returned, faulted}
 use Rattle.priml_syntax.specs.Inputs.{inputs_of}
 use Rattle.core_steps.specs.Expressions.{result_of, results_of, Results, AllGave, OneFault}
@@ -77,15 +77,15 @@ act_room job s t fs (ret e) k w = result_room s (result_of t.scope e) _ (λ v. t
 act_room job s t fs (spawn p b) k w = spawn_room s t fs p b k
 act_room job s t fs (sync x) k w = sync_room s t fs k (thread_in (slice_get t.scope x)) w
 act_room job s t fs (call f ps es) k w = results_room s (results_of t.scope es) _ (λ vs. call_room s t fs k (slice_get job.program.procs f) ps vs)
-act_room job s t fs (run b) k w = tt
+act_room job s t fs (do_block b) k w = tt
 act_room job s t fs input k w = read_room s t fs k (slice_get (inputs_of job.inputs s.path) s.reads)
 act_room job s t fs (output e) k w = result_room s (result_of t.scope e) _ (λ v. output_room s t fs k v)
 
 code_room : (job : Job) (s : State) (t : Frame) (fs : List Frame) (c : Body) (w : Option Outcome') → OnMoved s (run_code job s t fs c w)
 code_room job s t fs (bind at a k) w = act_room job s t fs a k w
-code_room job s t fs (give at e) w = result_room s (result_of t.scope e) _ (λ v. back_room s fs v)
-code_room job s t fs (branch at e a b) w = result_room s (result_of t.scope e) _ (λ v. if_room s t fs a b v)
-code_room job s t fs (split at e a b) w = result_room s (result_of t.scope e) _ (λ v. case_room s t fs a b v)
+code_room job s t fs (ret_tail at e) w = result_room s (result_of t.scope e) _ (λ v. back_room s fs v)
+code_room job s t fs (if_tail at e a b) w = result_room s (result_of t.scope e) _ (λ v. if_room s t fs a b v)
+code_room job s t fs (case_tail at e a b) w = result_room s (result_of t.scope e) _ (λ v. case_room s t fs a b v)
 
 phase_room : (job : Job) (s : State) (f : Phase) (w : Option Outcome') → OnMoved s (phase_step job s f w)
 phase_room job s (Fresh t) w = tt

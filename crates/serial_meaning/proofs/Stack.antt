@@ -14,7 +14,7 @@ use Rattle.priml_syntax.specs.Events.{spawns, one_spawn}
 use Rattle.priml_syntax.specs.Records.{work}
 use Rattle.cost_graph.specs.Records.{AreFinished, parts_of}
 use Rattle.core_steps.specs.Steps.{Job, outcome_in}
-use Rattle.core_steps.specs.Config.{Thread, thread_at, after, chosen, followed, begin, Reached, ReachedIn, IsFinished, WaitsOn, records_of}
+use Rattle.core_steps.specs.Config.{Thread, thread_by_path, after, chosen, followed, begin, Reached, ReachedIn, IsFinished, WaitsOn, records_of}
 use Rattle.core_steps.specs.Configs.{SlotFields, threads_from, AreSlots, AreRecords, Advances}
 use Rattle.core_steps.specs.Determined.{events_in, events_of, IsIn, HasEnded, steps_of}
 use Rattle.core_steps.specs.Laws.{IsChecked, CoreLaws, CheckedLaws}
@@ -149,9 +149,9 @@ module _ (job : Job) (ts : List Thread) (us : List Thread) (xs : List Active) (a
   child_other z = omega (arith, ap length z, length-append a.path (a.children ∷ []))
 
   child_quiet : events_of us child ≡ []
-  child_quiet = others child child_other ∙ go (thread_at ts child) refl
+  child_quiet = others child child_other ∙ go (thread_by_path ts child) refl
     where
-      go : (o : Option Thread) → thread_at ts child ≡ o → events_of ts child ≡ []
+      go : (o : Option Thread) → thread_by_path ts child ≡ o → events_of ts child ≡ []
       go None z = ap events_in z
       go (Some t) z = absurd (child_new (t, z))
 

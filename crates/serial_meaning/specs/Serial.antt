@@ -6,7 +6,7 @@ use Rattle.priml_syntax.specs.declared.event.Event.TheVariants.{Spawn, End}
 use Rattle.priml_syntax.specs.Events.{spawns}
 use Rattle.priml_syntax.specs.Paths.{Before, child_path}
 use Rattle.core_steps.specs.Steps.{Job}
-use Rattle.core_steps.specs.Config.{Thread, thread_at, ReachedIn, WaitsOn}
+use Rattle.core_steps.specs.Config.{Thread, thread_by_path, ReachedIn, WaitsOn}
 use Rattle.core_steps.specs.Configs.{SlotFields, threads_from}
 use Rattle.core_steps.specs.Determined.{events_of, IsIn, HasEnded}
 use Rattle.serial_meaning.specs.declared.serial.Active.{Active}
@@ -42,7 +42,7 @@ pub record Serial (job : Job) (n : ℕ) (ss : List SlotFields) (xs : List Active
 
 -- the thread of the path is there, has not ended, and waits on none
 pub record MayGo (ts : List Thread) (p : List ℕ) : Type 0 where
-  pub there : thread_at ts p ≡ None → ⊥
+  pub there : thread_by_path ts p ≡ None → ⊥
   pub live : HasEnded ts p → ⊥
   pub free : (b : List ℕ) → WaitsOn ts p b → ⊥
 

@@ -9,7 +9,7 @@ ghost use Rattle.cost_graph.specs.Records.{AreFinished, parts_in};
 ghost use Rattle.core_steps.specs.Configs.{Advances, IsConfig, slots_of};
 ghost use Rattle.core_steps.specs.Laws.{HasGraph};
 ghost use Rattle.core_steps.specs.Meaning.{meaning as the_meaning, Finished, Over};
-ghost use Rattle.core_steps.specs.Moves.{job_of};
+ghost use Rattle.core_steps.specs.Moves.{read_job};
 ghost use Rattle.serial_meaning.specs.Serial.{Serial, GoesOnAt, MaySpawn, left_of, roots_below};
 
 use core_steps::{Config, CoreStop, job_is_checked};
@@ -47,10 +47,10 @@ pub(crate) struct Active {
 /// The records of the serial meaning of a job, whose priorities are declared and whose graph has no cycle and is well formed. Below a
 /// limit of 2^32 they are what `Graph::of_records` asks for. `Over` comes exactly where the work exceeds the limit.
 pub fn meaning(alloc: Global, job: &Job, limit: u64) -> Result<Records, MeaningStop>
-    ensures ok { IfOk result (λ r. the_meaning (job_of job.now) limit ≡ Finished (map read_record r)) }
-    ensures over { result ≡ Err MeaningStop.Over → the_meaning (job_of job.now) limit ≡ Over }
-    ensures declared { IfOk result (All (λ (r : TheRecord). r.prio < length (job_of job.now).program.names)) }
-    ensures graph { IfOk result (λ r. HasGraph (job_of job.now) (map read_record r)) }
+    ensures ok { IfOk result (λ r. the_meaning (read_job job.now) limit ≡ Finished (map read_record r)) }
+    ensures over { result ≡ Err MeaningStop.Over → the_meaning (read_job job.now) limit ≡ Over }
+    ensures declared { IfOk result (All (λ (r : TheRecord). r.prio < length (read_job job.now).program.names)) }
+    ensures graph { IfOk result (λ r. HasGraph (read_job job.now) (map read_record r)) }
     ensures finished { limit < 2 ^ 32 → IfOk result (λ r. AreFinished (parts_in r)) }
 {
     job_is_checked(job);
@@ -65,7 +65,7 @@ pub fn meaning(alloc: Global, job: &Job, limit: u64) -> Result<Records, MeaningS
 
 // The roots, the first of them the last of the list.
 fn roots(alloc: Global, job: &Job) -> Result<Vec<Active>, AllocError>
-    ensures { IfOk result (λ v. v.items ≡ roots_below (length (job_of job.now).program.mains)) }
+    ensures { IfOk result (λ v. v.items ≡ roots_below (length (read_job job.now).program.mains)) }
 {
     let mut active = Vec::new(alloc);
     let mut left = job.roots();
@@ -85,11 +85,11 @@ fn run(
     job: &Job,
     limit: u64,
 ) -> Result<(), MeaningStop>
-    requires config { IsConfig (job_of job.now) config.old }
-    requires serial { Serial (job_of job.now) 0 (slots_of config.old) active.old.items }
-    ensures config { IsConfig (job_of job.now) config.new }
-    ensures done { OnOk result ((n : ℕ) × (n ≤ limit) × Serial (job_of job.now) n (slots_of config.new) []) }
-    ensures over { result ≡ Err MeaningStop.Over → the_meaning (job_of job.now) limit ≡ Over }
+    requires config { IsConfig (read_job job.now) config.old }
+    requires serial { Serial (read_job job.now) 0 (slots_of config.old) active.old.items }
+    ensures config { IsConfig (read_job job.now) config.new }
+    ensures done { OnOk result ((n : ℕ) × (n ≤ limit) × Serial (read_job job.now) n (slots_of config.new) []) }
+    ensures over { result ≡ Err MeaningStop.Over → the_meaning (read_job job.now) limit ≡ Over }
 {
     job_is_checked(job);
     let mut steps: u64 = 0;
@@ -110,11 +110,11 @@ fn step(
     alloc: Global,
     job: &Job,
 ) -> Result<(), AllocError>
-    requires config { IsConfig (job_of job.now) config.old }
-    requires serial { (n : ℕ) × Serial (job_of job.now) n (slots_of config.old) active.old.items }
+    requires config { IsConfig (read_job job.now) config.old }
+    requires serial { (n : ℕ) × Serial (read_job job.now) n (slots_of config.old) active.old.items }
     requires some { 0 < vec_len active.old }
-    ensures config { IsConfig (job_of job.now) config.new }
-    ensures serial { OnOk result ((n : ℕ) → Serial (job_of job.now) n (slots_of config.old) active.old.items → Serial (job_of job.now) (n + 1) (slots_of config.new) active.new.items) }
+    ensures config { IsConfig (read_job job.now) config.new }
+    ensures serial { OnOk result ((n : ℕ) → Serial (read_job job.now) n (slots_of config.old) active.old.items → Serial (read_job job.now) (n + 1) (slots_of config.new) active.new.items) }
 {
     match active.pop() {
         Some(top) => {
@@ -127,10 +127,10 @@ fn step(
 
 // A step of a thread that has not ended and waits on none.
 fn advance(config: &mut Config, alloc: Global, job: &Job, path: &Path) -> Result<Event, AllocError>
-    requires config { IsConfig (job_of job.now) config.old }
-    requires goes { GoesOnAt (job_of job.now) (slots_of config.old) path.now }
-    ensures goes { IfOk result (λ e. Advances (job_of job.now) (slots_of config.old) path.now e (slots_of config.new)) }
-    ensures config { IsConfig (job_of job.now) config.new }
+    requires config { IsConfig (read_job job.now) config.old }
+    requires goes { GoesOnAt (read_job job.now) (slots_of config.old) path.now }
+    ensures goes { IfOk result (λ e. Advances (read_job job.now) (slots_of config.old) path.now e (slots_of config.new)) }
+    ensures config { IsConfig (read_job job.now) config.new }
 {
     match config.advance(alloc, job, path) {
         Ok(event) => Ok(event),

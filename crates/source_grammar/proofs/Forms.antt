@@ -18,7 +18,7 @@ use Rattle.source_grammar.specs.declared.choice.Joint.{Joint}
 use Rattle.source_grammar.specs.declared.choice.Joint.TheVariants as joint
 use Rattle.source_grammar.specs.Next.{mid_form, joint_form, prefix_word, side_word}
 use Rattle.source_grammar.specs.Joined.{mid_type, prefix_term, side_term, joint_term, IsToken}
-use Rattle.source_grammar.specs.RawTree.{RawType, unit, bool, int, thread, WrittenType, RawTerm, var, number, truth, nothing}
+use Rattle.source_grammar.specs.RawTree.{RawType, unit, bool, int, thread, WrittenType, RawTerm, var, number, bool_term, unit_term}
 use Rattle.source_grammar.specs.Grammar.{token, sign, word, name, IsType, IsWritten, IsOp, IsExpr, IsName, IsGiven, IsParameter}
 
 of_kind : (t : Token) (kind : Kind) → t.kind ≡ kind → t ≡ token t.at kind
@@ -70,16 +70,16 @@ var_made old new t id e h = rw (e, of_kind t (k.Name id) h) (IsExpr.is_var (reco
 pub number_made : (old new : List Token) (t : Token) (n : ℕ) → old ≡ t ∷ new → t.kind ≡ k.Number n → IsExpr old new (number t.at n)
 number_made old new t n e h = rw (e, of_kind t (k.Number n) h) (IsExpr.is_number t.at n)
 
-pub true_made : (old new : List Token) (t : Token) → old ≡ t ∷ new → t.kind ≡ k.Word w.True → IsExpr old new (truth t.at true)
+pub true_made : (old new : List Token) (t : Token) → old ≡ t ∷ new → t.kind ≡ k.Word w.True → IsExpr old new (bool_term t.at true)
 true_made old new t e h = rw (e, of_kind t (k.Word w.True) h) (IsExpr.is_true t.at)
 
-pub false_made : (old new : List Token) (t : Token) → old ≡ t ∷ new → t.kind ≡ k.Word w.False → IsExpr old new (truth t.at false)
+pub false_made : (old new : List Token) (t : Token) → old ≡ t ∷ new → t.kind ≡ k.Word w.False → IsExpr old new (bool_term t.at false)
 false_made old new t e h = rw (e, of_kind t (k.Word w.False) h) (IsExpr.is_false t.at)
 
 pub opened_made : (old a new : List Token) (at : ℕ) (x : RawTerm) → old ≡ sign at s.OpenParen ∷ a → IsExpr (sign at s.OpenParen ∷ a) new x → IsExpr old new x
 opened_made old a new at x e h = rw e h
 
-pub nothing_made : (old new : List Token) (at close : ℕ) → old ≡ sign close s.CloseParen ∷ new → IsExpr (sign at s.OpenParen ∷ old) new (nothing at)
+pub nothing_made : (old new : List Token) (at close : ℕ) → old ≡ sign close s.CloseParen ∷ new → IsExpr (sign at s.OpenParen ∷ old) new (unit_term at)
 nothing_made old new at close e = rw e (IsExpr.is_nothing at close)
 
 pub closed_made : (ts old new : List Token) (at close : ℕ) (x : RawTerm) → old ≡ sign close s.CloseParen ∷ new → IsExpr ts old x → IsExpr (sign at s.OpenParen ∷ ts) new x

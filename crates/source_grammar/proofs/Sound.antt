@@ -13,7 +13,7 @@ use Rattle.source_grammar.specs.declared.choice.ExprForm.{ExprForm}
 use Rattle.source_grammar.specs.declared.choice.ExprForm.TheVariants as expr
 use Rattle.source_grammar.specs.Next.{is_at, form_at, is_sign, is_end, ty_form, mid_form, expr_form, joint_form, prefix_word, side_word}
 use Rattle.source_grammar.specs.Joined.{mid_type, prefix_term, side_term, joint_term}
-use Rattle.source_grammar.specs.RawTree.{unit, bool, int, thread, RawTerm, var, number, truth, nothing}
+use Rattle.source_grammar.specs.RawTree.{unit, bool, int, thread, RawTerm, var, number, bool_term, unit_term}
 use Rattle.source_grammar.specs.Grammar.{token, sign, IsSeparated, IsListed, IsType, IsWritten, IsExpr}
 use Rattle.source_grammar.specs.Ends.{BeginsOtherwise}
 use Rattle.source_grammar.specs.Machine.{Symbol, End, halt, AName, ASign, AtEnd, More, Separated, Listed, Ty, SimpleTy, ThreadTy, PairedTy, TyMid, Expr, Leaf, Opened, Inside, Behind, AJoint, Applied, Injected}
@@ -140,8 +140,8 @@ leaf_here : (xs : List Symbol) (at : ℕ) (kind : Kind) (ts : List Token) → ha
 unfolding halt
 leaf_here xs at (k.Name n) ts h = record { tree = var at n; rest = ts; is = IsExpr.is_var (record { at = at; id = n }); shorter = omega arith; takes = h }
 leaf_here xs at (k.Number n) ts h = record { tree = number at n; rest = ts; is = IsExpr.is_number at n; shorter = omega arith; takes = h }
-leaf_here xs at (k.Word w.True) ts h = record { tree = truth at true; rest = ts; is = IsExpr.is_true at; shorter = omega arith; takes = h }
-leaf_here xs at (k.Word w.False) ts h = record { tree = truth at false; rest = ts; is = IsExpr.is_false at; shorter = omega arith; takes = h }
+leaf_here xs at (k.Word w.True) ts h = record { tree = bool_term at true; rest = ts; is = IsExpr.is_true at; shorter = omega arith; takes = h }
+leaf_here xs at (k.Word w.False) ts h = record { tree = bool_term at false; rest = ts; is = IsExpr.is_false at; shorter = omega arith; takes = h }
 leaf_here xs at _ ts h = absurd (cc)
 
 leaf_found : (xs : List Symbol) (ts : List Token) → halt (Leaf ∷ xs) ts ≡ None → Found (IsExpr ts) xs ts
@@ -173,7 +173,7 @@ module _ (n : ℕ) (below : ExprBelow n) where
       → Found (IsExpr (sign at s.OpenParen ∷ ts)) xs ts
   inside_found at xs ts l h true e =
       let d = sign_taken s.CloseParen xs ts (sym (inside-close xs ts e) ∙ h) in
-      record { tree = nothing at; rest = d.rest; is = nothing_made ts d.rest at d.at d.is; shorter = d.shorter; takes = d.takes }
+      record { tree = unit_term at; rest = d.rest; is = nothing_made ts d.rest at d.at d.is; shorter = d.shorter; takes = d.takes }
   inside_found at xs ts l h false e =
       let x = below (Behind ∷ xs) ts l (sym (halt-bracketed xs ts) ∙ sym (inside-more xs ts e) ∙ h) in
       let b = behind_found at xs x.rest ts x.tree x.is (omega (arith, x.shorter)) x.takes (is_at (is_sign s.CloseParen) x.rest) (refl {a = is_at (is_sign s.CloseParen) x.rest}) in

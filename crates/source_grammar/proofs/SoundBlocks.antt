@@ -14,7 +14,7 @@ use Rattle.source_grammar.specs.declared.choice.DeclarationForm.TheVariants as d
 use Rattle.source_grammar.specs.Next.{is_at, form_at, is_name, is_sign, action_form, tail_form, declaration_form}
 use Rattle.source_grammar.specs.Ends.{name_no_end, expr_no_end, parameter_no_end}
 use Rattle.source_grammar.specs.Joined.{EndsHead}
-use Rattle.source_grammar.specs.RawTree.{block, RawBody, bind, give, branch, split, RawAct, ret, spawn, sync, call, run, input, output, Declaration, priority, order, procedure, RawTree}
+use Rattle.source_grammar.specs.RawTree.{block, RawBody, bind, ret_tail, if_tail, case_tail, RawAct, ret, spawn, sync, call, do_block, input, output, Declaration, priority, order, procedure, RawTree}
 use Rattle.source_grammar.specs.Grammar.{sign, IsName, IsExpr, IsPriorities, IsBlock, IsBody, IsAction, IsGiven, IsParameter, IsHead, IsRoutine, IsProcedure, IsDecls, IsMain, IsProgram}
 use Rattle.source_grammar.specs.Machine.{Symbol, parens, brackets, variables, halt, declaration_symbol, AName, AWord, ASign, AtEnd, Separated, Listed, Ty, Expr, Block, Binds, Bind, Tail, Give, Branch, Split, Action, Returned, Spawn, Sync, Call, Run, Input, Output, CallOpen, CallPriorities, Program, Priority, Order, Procedure, Main, Routine, HeadOpen, HeadVariables, HeadEnd, HeadClose, HeadGiven, Given}
 use Rattle.source_grammar.specs.Machine as m
@@ -66,7 +66,7 @@ give_found : (xs : List Symbol) (ts : List Token) → halt (Give ∷ xs) ts ≡ 
 give_found xs ts h =
     let p = word_taken w.Ret (Expr ∷ xs) ts (sym (halt-give xs ts) ∙ h) in
     let e = expr_found xs p.rest p.takes in
-    record { tree = give p.at e.tree; rest = e.rest; is = give_made ts p.rest e.rest p.at e.tree p.is e.is; shorter = omega (arith, p.shorter, e.shorter); takes = e.takes }
+    record { tree = ret_tail p.at e.tree; rest = e.rest; is = give_made ts p.rest e.rest p.at e.tree p.is e.is; shorter = omega (arith, p.shorter, e.shorter); takes = e.takes }
 
 returned_found : (xs : List Symbol) (ts : List Token) → halt (Returned ∷ xs) ts ≡ None → Found (IsAct ts) xs ts
 returned_found xs ts h =
@@ -154,7 +154,7 @@ module _ (n : ℕ) (below : Sound n) where
       let o = word_taken w.Else (Block ∷ xs) x.rest x.takes in
       let y = below.block_found xs o.rest (omega (arith, p.shorter, e.shorter, x.shorter, o.shorter)) o.takes in
       record {
-        tree = branch p.at e.tree x.tree y.tree;
+        tree = if_tail p.at e.tree x.tree y.tree;
         rest = y.rest;
         is = branch_made ts p.rest e.rest x.rest o.rest y.rest p.at o.at e.tree x.tree y.tree x.tree y.tree p.is e.is x.is o.is y.is (refl {a = x.tree}) (refl {a = y.tree});
         shorter = omega (arith, p.shorter, e.shorter, x.shorter, o.shorter, y.shorter);
@@ -172,7 +172,7 @@ module _ (n : ℕ) (below : Sound n) where
       let j = name_taken (Block ∷ xs) b.rest b.takes in
       let y = below.block_found xs j.rest (omega (arith, p.shorter, e.shorter, a.shorter, i.shorter, x.shorter, b.shorter, j.shorter)) j.takes in
       record {
-        tree = split p.at e.tree i.it x.tree j.it y.tree;
+        tree = case_tail p.at e.tree i.it x.tree j.it y.tree;
         rest = y.rest;
         is = split_made ts p.rest e.rest a.rest i.rest x.rest b.rest j.rest y.rest p.at a.at b.at i.it j.it e.tree x.tree y.tree x.tree y.tree p.is e.is a.is i.is x.is b.is j.is y.is (refl {a = x.tree}) (refl {a = y.tree});
         shorter = omega (arith, p.shorter, e.shorter, a.shorter, i.shorter, x.shorter, b.shorter, j.shorter, y.shorter);
@@ -229,7 +229,7 @@ module _ (n : ℕ) (below : Sound n) where
   run_found xs ts l h =
       let p = word_taken w.Do (Block ∷ xs) ts (sym (halt-run xs ts) ∙ h) in
       let b = below.block_found xs p.rest (omega (arith, p.shorter)) p.takes in
-      record { tree = (p.at, run b.tree); rest = b.rest; is = run_made ts p.rest b.rest p.at b.tree b.tree p.is b.is (refl {a = b.tree}); shorter = omega (arith, p.shorter, b.shorter); takes = b.takes }
+      record { tree = (p.at, do_block b.tree); rest = b.rest; is = run_made ts p.rest b.rest p.at b.tree b.tree p.is b.is (refl {a = b.tree}); shorter = omega (arith, p.shorter, b.shorter); takes = b.takes }
 
   action_step : (xs : List Symbol) (ts : List Token) → length ts ≤ n → halt (Action ∷ xs) ts ≡ None → (o : Option ActionForm) → form_at action_form ts ≡ o → Found (IsAct ts) xs ts
   action_step xs ts l h None e = absurd (let f : Some ts ≡ None = sym (action-none xs ts e) ∙ h in cc)

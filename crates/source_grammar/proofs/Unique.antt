@@ -7,7 +7,7 @@ use Rattle.source_tokens.specs.declared.token.Word.TheVariants as w
 use Rattle.source_tokens.specs.declared.token.Sign.TheVariants as s
 use Rattle.priml_syntax.specs.declared.expr.Op.{Op}
 use Rattle.source_grammar.specs.declared.raw.Name.{Name}
-use Rattle.source_grammar.specs.RawTree.{RawType, RawTerm, RawCode, block, RawBody, give, RawAct, ret, spawn, run, output, WrittenType, Parameter, RawRoutine, RawProcedure, Declaration, priority, order, RawTree}
+use Rattle.source_grammar.specs.RawTree.{RawType, RawTerm, RawCode, block, RawBody, ret_tail, RawAct, ret, spawn, do_block, output, WrittenType, Parameter, RawRoutine, RawProcedure, Declaration, priority, order, RawTree}
 use Rattle.source_grammar.specs.Grammar.{token, sign, word, name, IsSeparated, IsListed, IsName, IsType, IsWritten, IsOp, IsExpr, IsPriorities, IsBlock, IsBody, IsAction, IsGiven, IsParameter, IsHead, IsRoutine, IsProcedure, IsDecls, IsMain, IsProgram}
 use Rattle.source_grammar.specs.Next.{is_at, is_end, is_sign}
 use Rattle.source_grammar.proofs.Moves.{ItemStarts, separated_starts, name_starts, expr_starts, parameter_starts, end_no_comma}
@@ -168,7 +168,7 @@ mutual
   block_unique (IsBlock.is_block at close b) (IsBlock.is_block at' close' b') = let p = body_unique b b' in (same_end p.0, ap (block at) p.1)
 
   body_unique : {ts rest rest' : List Token} {b b' : RawBody} → IsBody ts rest b → IsBody ts rest' b' → (rest ≡ rest') × (b ≡ b')
-  body_unique (IsBody.is_give at e) (IsBody.is_give at' e') = let p = expr_unique e e' in (p.0, ap (give at) p.1)
+  body_unique (IsBody.is_give at e) (IsBody.is_give at' e') = let p = expr_unique e e' in (p.0, ap (ret_tail at) p.1)
   body_unique (IsBody.is_branch at o e x y) (IsBody.is_branch at' o' e' x' y') =
       let p = expr_unique e e' in
       let q = block_unique x (along_block p.0 x') in
@@ -194,7 +194,7 @@ mutual
       let p = priorities_unique ps ps' in
       let q = listed_unique (λ ts r r' x x' h h'. expr_unique h h') expr_starts es (along_exprs p.0 es') refl refl in
       (refl, same_end q.0, cc (p.1, q.1))
-  action_unique (IsAction.is_run at b) (IsAction.is_run at' b') = let q = block_unique b b' in (refl, q.0, ap run q.1)
+  action_unique (IsAction.is_run at b) (IsAction.is_run at' b') = let q = block_unique b b' in (refl, q.0, ap do_block q.1)
   action_unique (IsAction.is_input at) (IsAction.is_input at') = (refl, refl, refl)
   action_unique (IsAction.is_output at e) (IsAction.is_output at' e') = let p = expr_unique e e' in (refl, p.0, ap output p.1)
 

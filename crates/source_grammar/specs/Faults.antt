@@ -28,11 +28,11 @@ pub record IsUnexpected (ts : List Token) (n : ℕ) : Type 0 where
   pub none : (p : RawTree) → IsProgram ts p → ⊥
 
 -- what a refusal says: where a token is unexpected, the tokens stand for no program
-abbrev pub Refuses : List Token → ParseStop → Type 0
-Refuses ts (Unexpected t) = (p : RawTree) → IsProgram ts p → ⊥
-Refuses ts OutOfMemory = Unit {0}
+abbrev pub HasNoTree : List Token → ParseStop → Type 0
+HasNoTree ts (Unexpected t) = (p : RawTree) → IsProgram ts p → ⊥
+HasNoTree ts OutOfMemory = Unit {0}
 
 -- what the token of a refusal says: it stands at the place where the text leaves the grammar, and there is none at the end
-abbrev pub StopsAt : List Token → ParseStop → Type 0
-StopsAt ts (Unexpected t) = (n : ℕ) × IsUnexpected ts n × (slice_get ts n ≡ t)
-StopsAt ts OutOfMemory = Unit {0}
+abbrev pub TokenIsAt : List Token → ParseStop → Type 0
+TokenIsAt ts (Unexpected t) = (n : ℕ) × IsUnexpected ts n × (slice_get ts n ≡ t)
+TokenIsAt ts OutOfMemory = Unit {0}

@@ -11,7 +11,7 @@ use Rattle.source_tokens.specs.declared.token.Sign.TheVariants as s
 use Rattle.priml_syntax.specs.declared.expr.Op.{Op}
 use Rattle.priml_syntax.specs.declared.expr.Op.TheVariants as o
 use Rattle.source_grammar.specs.declared.raw.Name.{Name}
-use Rattle.source_grammar.specs.RawTree.{RawType, unit, bool, int, pair, sum, thread, WrittenType, RawTerm, var, number, truth, nothing, both, first, second, left, right, binary, negated, RawCode, block, RawBody, bind, give, branch, split, RawAct, ret, spawn, sync, call, run, input, output, Parameter, RawRoutine, RawProcedure, Declaration, priority, order, procedure, RawTree}
+use Rattle.source_grammar.specs.RawTree.{RawType, unit, bool, int, pair, sum, thread, WrittenType, RawTerm, var, number, bool_term, unit_term, pair_term, first, second, left, right, binary, negated, RawCode, block, RawBody, bind, ret_tail, if_tail, case_tail, RawAct, ret, spawn, sync, call, do_block, input, output, Parameter, RawRoutine, RawProcedure, Declaration, priority, order, procedure, RawTree}
 
 abbrev pub token : ℕ → Kind → Token
 token at kind = record { at = at; kind = kind }
@@ -74,13 +74,13 @@ pub data IsOp : Kind → Op → Type 0 where
 pub data IsExpr : List Token → List Token → RawTerm → Type 0 where
   is_var : (n : Name) {rest : List Token} → IsExpr (name n ∷ rest) rest (var n.at n.id)
   is_number : (at n : ℕ) {rest : List Token} → IsExpr (token at (k.Number n) ∷ rest) rest (number at n)
-  is_true : (at : ℕ) {rest : List Token} → IsExpr (word at w.True ∷ rest) rest (truth at true)
-  is_false : (at : ℕ) {rest : List Token} → IsExpr (word at w.False ∷ rest) rest (truth at false)
-  is_nothing : (at close : ℕ) {rest : List Token} → IsExpr (sign at s.OpenParen ∷ sign close s.CloseParen ∷ rest) rest (nothing at)
+  is_true : (at : ℕ) {rest : List Token} → IsExpr (word at w.True ∷ rest) rest (bool_term at true)
+  is_false : (at : ℕ) {rest : List Token} → IsExpr (word at w.False ∷ rest) rest (bool_term at false)
+  is_nothing : (at close : ℕ) {rest : List Token} → IsExpr (sign at s.OpenParen ∷ sign close s.CloseParen ∷ rest) rest (unit_term at)
   is_inside : (at close : ℕ) {ts rest : List Token} {x : RawTerm} → IsExpr ts (sign close s.CloseParen ∷ rest) x → IsExpr (sign at s.OpenParen ∷ ts) rest x
   is_both : (at comma close : ℕ) {ts us rest : List Token} {x y : RawTerm}
       → IsExpr ts (sign comma s.Comma ∷ us) x → IsExpr us (sign close s.CloseParen ∷ rest) y
-      → IsExpr (sign at s.OpenParen ∷ ts) rest (both at x y)
+      → IsExpr (sign at s.OpenParen ∷ ts) rest (pair_term at x y)
   is_binary : (at mid close : ℕ) (kind : Kind) (op : Op) {ts us rest : List Token} {x y : RawTerm}
       → IsExpr ts (token mid kind ∷ us) x → IsOp kind op → IsExpr us (sign close s.CloseParen ∷ rest) y
       → IsExpr (sign at s.OpenParen ∷ ts) rest (binary at op x y)
@@ -112,13 +112,13 @@ mutual
 
   -- bound actions, as far as names come, and then the ending
   pub data IsBody : List Token → List Token → RawBody → Type 0 where
-    is_give : (at : ℕ) {ts rest : List Token} {e : RawTerm} → IsExpr ts rest e → IsBody (word at w.Ret ∷ ts) rest (give at e)
+    is_give : (at : ℕ) {ts rest : List Token} {e : RawTerm} → IsExpr ts rest e → IsBody (word at w.Ret ∷ ts) rest (ret_tail at e)
     is_branch : (at other : ℕ) {ts us vs rest : List Token} {e : RawTerm} {x y : RawCode}
         → IsExpr ts us e → IsBlock us (word other w.Else ∷ vs) x → IsBlock vs rest y
-        → IsBody (word at w.If ∷ ts) rest (branch at e x y)
+        → IsBody (word at w.If ∷ ts) rest (if_tail at e x y)
     is_split : (at b c : ℕ) (m n : Name) {ts us vs rest : List Token} {e : RawTerm} {x y : RawCode}
         → IsExpr ts (word b w.Inl ∷ name m ∷ us) e → IsBlock us (word c w.Inr ∷ name n ∷ vs) x → IsBlock vs rest y
-        → IsBody (word at w.Case ∷ ts) rest (split at e m x n y)
+        → IsBody (word at w.Case ∷ ts) rest (case_tail at e m x n y)
     is_bind : (n : Name) (arrow at end : ℕ) {ts us rest : List Token} {a : RawAct} {b : RawBody}
         → IsAction ts (sign end s.Semicolon ∷ us) at a → IsBody us rest b
         → IsBody (name n ∷ sign arrow s.Arrow ∷ ts) rest (bind n at a b)
@@ -133,7 +133,7 @@ mutual
     is_call : (at from close : ℕ) (f : Name) {ts us rest : List Token} {ps : List Name} {es : List RawTerm}
         → IsPriorities ts (sign from s.OpenParen ∷ us) ps → IsListed IsExpr us (sign close s.CloseParen ∷ rest) es
         → IsAction (word at w.Call ∷ name f ∷ ts) rest at (call f ps es)
-    is_run : (at : ℕ) {ts rest : List Token} {b : RawCode} → IsBlock ts rest b → IsAction (word at w.Do ∷ ts) rest at (run b)
+    is_run : (at : ℕ) {ts rest : List Token} {b : RawCode} → IsBlock ts rest b → IsAction (word at w.Do ∷ ts) rest at (do_block b)
     is_input : (at : ℕ) {rest : List Token} → IsAction (word at w.Input ∷ rest) rest at input
     is_output : (at : ℕ) {ts rest : List Token} {e : RawTerm} → IsExpr ts rest e → IsAction (word at w.Output ∷ ts) rest at (output e)
 

@@ -12,7 +12,7 @@ use Rattle.source_grammar.specs.declared.choice.Side.TheVariants as side
 use Rattle.source_grammar.specs.declared.choice.Joint.{Joint}
 use Rattle.source_grammar.specs.declared.choice.Joint.TheVariants as joint
 use Rattle.source_grammar.specs.declared.raw.Name.{Name}
-use Rattle.source_grammar.specs.RawTree.{RawType, pair, sum, WrittenType, RawTerm, both, first, second, left, right, binary, negated}
+use Rattle.source_grammar.specs.RawTree.{RawType, pair, sum, WrittenType, RawTerm, pair_term, first, second, left, right, binary, negated}
 use Rattle.source_grammar.specs.Grammar.{sign, IsListed, IsName, IsHead}
 
 abbrev pub mid_type : Mid → RawType → RawType → RawType
@@ -29,7 +29,7 @@ side_term side.Left at t x = left at t x
 side_term side.Right at t x = right at t x
 
 abbrev pub joint_term : Joint → ℕ → RawTerm → RawTerm → RawTerm
-joint_term joint.Comma at x y = both at x y
+joint_term joint.Comma at x y = pair_term at x y
 joint_term (joint.Operator op) at x y = binary at op x y
 
 -- the next token has this form

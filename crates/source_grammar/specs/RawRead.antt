@@ -34,9 +34,9 @@ read_written w = record { at = w.at; ty = read_ty w.ty }
 abbrev pub read_form : RawForm → ℕ → RawTerm
 read_form (form.Var id) at = tree.var at id
 read_form (form.Int n) at = tree.number at n
-read_form (form.Bool b) at = tree.truth at b
-read_form form.Unit at = tree.nothing at
-read_form (form.Pair' p i a j b) at = tree.both at (read_form a i) (read_form b j)
+read_form (form.Bool b) at = tree.bool_term at b
+read_form form.Unit at = tree.unit_term at
+read_form (form.Pair' p i a j b) at = tree.pair_term at (read_form a i) (read_form b j)
 read_form (form.Fst' p i a) at = tree.first at (read_form a i)
 read_form (form.Snd' p i a) at = tree.second at (read_form a i)
 read_form (form.Inl' p t i a) at = tree.left at (read_written t) (read_form a i)
@@ -56,16 +56,16 @@ abbrev mutual
   read_binds (more_of-RawBind name at a rest) body = tree.bind name at (read_action a) (read_binds rest body)
 
   pub read_tail : RawTailForm → ℕ → RawBody
-  read_tail (tail.Ret e) at = tree.give at (read_expr e)
-  read_tail (tail.If' e p a q b) at = tree.branch at (read_expr e) (read_block a) (read_block b)
-  read_tail (tail.Case' e m p a n q b) at = tree.split at (read_expr e) m (read_block a) n (read_block b)
+  read_tail (tail.Ret e) at = tree.ret_tail at (read_expr e)
+  read_tail (tail.If' e p a q b) at = tree.if_tail at (read_expr e) (read_block a) (read_block b)
+  read_tail (tail.Case' e m p a n q b) at = tree.case_tail at (read_expr e) m (read_block a) n (read_block b)
 
   pub read_action : RawAction → RawAct
   read_action (action.Ret e) = tree.ret (read_expr e)
   read_action (action.Spawn' p q b) = tree.spawn p (read_block b)
   read_action (action.Sync h) = tree.sync h
   read_action (action.Call c) = tree.call c.value.procedure c.value.priorities.items (map read_expr c.value.arguments.items)
-  read_action (action.Do' p b) = tree.run (read_block b)
+  read_action (action.Do' p b) = tree.do_block (read_block b)
   read_action action.Input = tree.input
   read_action (action.Output e) = tree.output (read_expr e)
 

@@ -19,9 +19,9 @@ pub record WrittenType : Type 0 where
 pub data RawTerm : Type 0 where
   var : ℕ → ℕ → RawTerm
   number : ℕ → ℕ → RawTerm
-  truth : ℕ → Bool → RawTerm
-  nothing : ℕ → RawTerm
-  both : ℕ → RawTerm → RawTerm → RawTerm
+  bool_term : ℕ → Bool → RawTerm
+  unit_term : ℕ → RawTerm
+  pair_term : ℕ → RawTerm → RawTerm → RawTerm
   first second : ℕ → RawTerm → RawTerm
   left right : ℕ → WrittenType → RawTerm → RawTerm
   binary : ℕ → Op → RawTerm → RawTerm → RawTerm
@@ -35,9 +35,9 @@ mutual
   -- what is left of a block: bound actions, and then an ending
   pub data RawBody : Type 0 where
     bind : Name → ℕ → RawAct → RawBody → RawBody
-    give : ℕ → RawTerm → RawBody
-    branch : ℕ → RawTerm → RawCode → RawCode → RawBody
-    split : ℕ → RawTerm → Name → RawCode → Name → RawCode → RawBody
+    ret_tail : ℕ → RawTerm → RawBody
+    if_tail : ℕ → RawTerm → RawCode → RawCode → RawBody
+    case_tail : ℕ → RawTerm → Name → RawCode → Name → RawCode → RawBody
 
   -- an action
   pub data RawAct : Type 0 where
@@ -45,7 +45,7 @@ mutual
     spawn : Name → RawCode → RawAct
     sync : Name → RawAct
     call : Name → List Name → List RawTerm → RawAct
-    run : RawCode → RawAct
+    do_block : RawCode → RawAct
     input : RawAct
     output : RawTerm → RawAct
 

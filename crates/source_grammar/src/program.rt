@@ -1,7 +1,7 @@
 //! Declarations, the main procedure and the program.
 
 ghost use Rattle.std.specs.Prelude.{◌≡◌, ◌∷◌, [], IfOk, IfErr, ◌<◌, length, map};
-ghost use Rattle.source_grammar.specs.Faults.{Refuses, StopsAt};
+ghost use Rattle.source_grammar.specs.Faults.{HasNoTree, TokenIsAt};
 ghost use Rattle.source_grammar.specs.Grammar.{IsDecls, IsMain, IsProgram};
 ghost use Rattle.source_grammar.specs.Machine.{Main, Order, Priority, Program, declaration_symbol};
 ghost use Rattle.source_grammar.specs.RawRead.{read_decl, read_main, read_raw};
@@ -32,8 +32,8 @@ pub fn parse(alloc: Global, runs: &[Vec<Token>]) -> Result<RawProgram, ParseStop
     requires { AreShallow 0 (joined runs.now) }
     ensures program { IfOk result (λ p. IsProgram (joined runs.now) (read_raw p)) }
     ensures only { IfOk result (λ p. (q : RawTree) → IsProgram (joined runs.now) q → q ≡ read_raw p) }
-    ensures none { IfErr result (Refuses (joined runs.now)) }
-    ensures unexpected { IfErr result (StopsAt (joined runs.now)) }
+    ensures none { IfErr result (HasNoTree (joined runs.now)) }
+    ensures unexpected { IfErr result (TokenIsAt (joined runs.now)) }
 {
     let mut rest = Tokens::new(runs);
     match program(alloc, &mut rest) {

@@ -5,7 +5,7 @@ use Rattle.std.proofs.lemmas.List.{append-nil}
 use Rattle.std.proofs.lemmas.Nat.{mul-le}
 use Rattle.priml_syntax.specs.declared.prio.Prio.TheVariants.{Const}
 use Rattle.priml_syntax.specs.declared.expr.Op.TheVariants.{Add, Sub, Less}
-use Rattle.priml_syntax.specs.Tree.{Term, var, number, binary, Code, block, Body, bind, give, sync, call, inside}
+use Rattle.priml_syntax.specs.Tree.{Term, var, number, binary, Code, block, Body, bind, ret_tail, sync, call, inside}
 use Rattle.priml_syntax.specs.Values.{int_value, bool_value, thread_value, returned, Entry}
 use Rattle.priml_syntax.specs.declared.event.Event.{Event}
 use Rattle.priml_syntax.specs.declared.event.Event.TheVariants.{Start, Plain, Spawn, Join}
@@ -54,7 +54,7 @@ abbrev is_last : Term
 is_last = binary 152 Less (var 153 0) (number 157 (pos 1))
 
 abbrev last_code : Code
-last_code = block 160 (give 162 (number 166 (pos 0)))
+last_code = block 160 (ret_tail 162 (number 166 (pos 0)))
 
 abbrev one_less_of : Term
 one_less_of = binary 248 Sub (var 249 0) (number 253 (pos 1))
@@ -63,7 +63,7 @@ abbrev both_terms : Term
 both_terms = binary 283 Add (var 284 2) (var 288 3)
 
 abbrev last_join : Body
-last_join = bind 267 (sync 1) (give 279 both_terms)
+last_join = bind 267 (sync 1) (ret_tail 279 both_terms)
 
 abbrev next_call : Body
 next_call = bind 237 (call 1 [] (one_less_of ∷ [])) last_join
@@ -96,7 +96,7 @@ module _ (n : ℕ) where
       (int_value (pos (total k))) (chain_at (i + 1 + k) (going ++ call_events (i + 1) k)) all
       (ap (λ o. one_more (Some o) (Some (AllGave []))) (ap checked (one_less k) ∙ checked_small k (omega arith))) refl
       (chain_gives k (i + 1) d going more (omega arith) (earlier_more i (suc k) done earlier))
-      ∙ joins (made_job n) (suc (fuel_for k d)) (chain_at (i + 1 + k) back) all called [] 267 1 (give 279 both_terms) (0 ∷ 0 ∷ i ∷ []) (int_value (pos (suc k % 7))) refl
+      ∙ joins (made_job n) (suc (fuel_for k d)) (chain_at (i + 1 + k) back) all called [] 267 1 (ret_tail 279 both_terms) (0 ∷ 0 ∷ i ∷ []) (int_value (pos (suc k % 7))) refl
       (leaf_ended i (suc k) done (leaves (i + 1) k) earlier)
       ∙ gives (made_job n) (fuel_for k d) (chain_at (i + 1 + k) (back ++ Join (0 ∷ 0 ∷ i ∷ []) ∷ [])) all (called ++ int_value (pos (suc k % 7)) ∷ []) [] 279 both_terms
       (int_value (pos (total k + suc k % 7))) (ap Some (checked_small (total k + suc k % 7) (omega (arith, small))))

@@ -4,7 +4,7 @@ use Rattle.std.specs.Fmt.{decimal}
 use Rattle.priml_syntax.specs.declared.expr.Op.TheVariants.{Add, Sub, Mul, Rem, Less}
 use Rattle.source_tokens.specs.declared.token.Token.{Token}
 use Rattle.source_grammar.specs.declared.raw.Name.{Name}
-use Rattle.source_grammar.specs.RawTree.{int, WrittenType, var, number, binary, RawCode, block, bind, give, branch, spawn, sync, call, output, RawRoutine, RawProcedure, priority, order, procedure, RawTree}
+use Rattle.source_grammar.specs.RawTree.{int, WrittenType, var, number, binary, RawCode, block, bind, ret_tail, if_tail, spawn, sync, call, output, RawRoutine, RawProcedure, priority, order, procedure, RawTree}
 use Rattle.source_grammar.specs.Grammar.{IsPriorities, IsHead, IsProcedure, IsMain, IsProgram, one, some, is_int, is_written, is_add, is_sub, is_mul, is_rem, is_less, is_var, is_number, is_binary, is_block, is_give, is_branch, is_bind, is_spawn, is_sync, is_call, is_output, is_parameter, is_routine, is_procedure, no_more, is_priority, is_order, is_declared, is_main, is_program}
 use Rattle.source_maker.proofs.Pieces.{tokens}
 use Rattle.source_maker.proofs.Sample.{leaf_pieces, chain_pieces}
@@ -21,13 +21,13 @@ abbrev taking_one : Name → Name → ℕ → RawRoutine → RawProcedure
 taking_one n parameter at routine = record { name = n; vars = []; given = []; params = record { name = parameter; ty = int_at at } ∷ []; routine = routine }
 
 abbrev leaf_code : RawCode
-leaf_code = block 72 (bind (name 76 4) 81 (output (binary 88 Mul (var 89 3) (var 93 3))) (give 99 (binary 103 Rem (var 104 3) (number 108 7))))
+leaf_code = block 72 (bind (name 76 4) 81 (output (binary 88 Mul (var 89 3) (var 93 3))) (ret_tail 99 (binary 103 Rem (var 104 3) (number 108 7))))
 
 abbrev leaf : RawProcedure
 leaf = taking_one (name 46 2) (name 51 3) 55 (record { at = 41; own = name 63 0; result = int_at 68; body = leaf_code })
 
 abbrev call_leaf : RawCode
-call_leaf = block 198 (bind (name 200 7) 205 (call (name 210 2) [] (var 215 3 ∷ [])) (give 219 (var 223 7)))
+call_leaf = block 198 (bind (name 200 7) 205 (call (name 210 2) [] (var 215 3 ∷ [])) (ret_tail 219 (var 223 7)))
 
 abbrev chain_rest : RawCode
 chain_rest =
@@ -35,10 +35,10 @@ chain_rest =
     (bind (name 183 6) 188 (spawn (name 194 0) call_leaf)
     (bind (name 232 8) 237 (call (name 242 5) [] (binary 248 Sub (var 249 3) (number 253 1) ∷ []))
     (bind (name 262 9) 267 (sync (name 272 6))
-    (give 279 (binary 283 Add (var 284 8) (var 288 9))))))
+    (ret_tail 279 (binary 283 Add (var 284 8) (var 288 9))))))
 
 abbrev chain_code : RawCode
-chain_code = block 145 (branch 149 (binary 152 Less (var 153 3) (number 157 1)) (block 160 (give 162 (number 166 0))) chain_rest)
+chain_code = block 145 (if_tail 149 (binary 152 Less (var 153 3) (number 157 1)) (block 160 (ret_tail 162 (number 166 0))) chain_rest)
 
 abbrev chain : RawProcedure
 chain = taking_one (name 118 5) (name 124 3) 128 (record { at = 113; own = name 136 0; result = int_at 141; body = chain_code })
@@ -46,7 +46,7 @@ chain = taking_one (name 118 5) (name 124 3) 128 (record { at = 113; own = name 
 abbrev call_chain : ℕ → RawCode
 call_chain n =
     let digits = length (decimal n) in
-    block 333 (bind (name 335 7) 340 (call (name 345 5) [] (number 351 n ∷ [])) (give (digits + 354) (var (digits + 358) 7)))
+    block 333 (bind (name 335 7) 340 (call (name 345 5) [] (number 351 n ∷ [])) (ret_tail (digits + 354) (var (digits + 358) 7)))
 
 abbrev main_code : ℕ → RawCode
 main_code n =
@@ -54,7 +54,7 @@ main_code n =
     block 314
     (bind (name 318 6) 323 (spawn (name 329 0) (call_chain n))
     (bind (name (digits + 365) 4) (digits + 370) (output (number (digits + 377) n))
-    (give (2 * digits + 381) (number (2 * digits + 385) n))))
+    (ret_tail (2 * digits + 381) (number (2 * digits + 385) n))))
 
 abbrev main : ℕ → RawRoutine
 main n = record { at = 297; own = name 305 1; result = int_at 310; body = main_code n }

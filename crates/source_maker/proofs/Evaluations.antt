@@ -2,7 +2,7 @@
 use Rattle.std.proofs.Common.{◌≡◌, ℕ, suc, ◌+◌, List, [], ◌∷◌, ◌++◌, Some, true, false, slice_get, Bool, refl, ap, ◌∙◌}
 use Rattle.std.specs.Prelude.{ℤ}
 use Rattle.priml_syntax.specs.declared.prio.Prio.{Prio}
-use Rattle.priml_syntax.specs.Tree.{Term, Code, Body, bind, give, branch, spawn, sync, call, output, inside, Routine}
+use Rattle.priml_syntax.specs.Tree.{Term, Code, Body, bind, ret_tail, if_tail, spawn, sync, call, output, inside, Routine}
 use Rattle.priml_syntax.specs.Values.{Value', unit_value, bool_value, int_value, thread_value, returned, faulted, Entry}
 use Rattle.priml_syntax.specs.declared.value.FaultKind.TheVariants.{Depth}
 use Rattle.priml_syntax.specs.declared.event.Event.TheVariants.{Plain, Spawn, Join, Wrote}
@@ -12,13 +12,13 @@ use Rattle.core_steps.specs.Steps.{Job, prio_of, thread_in}
 use Rattle.core_steps.specs.Meaning.{Here, noted, entered, closing, outcome_at, may_spawn, after_thread, Answer, Back, eval}
 
 module _ (job : Job) (d : ℕ) (h : Here) (done : List Entry) (scope : List Value') (ps : List ℕ) (at : ℕ) where
-  pub gives : (e : Term) (v : Value') → result_of scope e ≡ Some (returned v) → eval job (suc d) h done (give at e) scope ps ≡ Back (returned v) h done
+  pub gives : (e : Term) (v : Value') → result_of scope e ≡ Some (returned v) → eval job (suc d) h done (ret_tail at e) scope ps ≡ Back (returned v) h done
   gives e v is = rw is refl
 
-  pub takes_first : (e : Term) (a b : Code) → result_of scope e ≡ Some (returned (bool_value true)) → eval job (suc d) h done (branch at e a b) scope ps ≡ eval job d (noted h Plain) done (inside a) scope ps
+  pub takes_first : (e : Term) (a b : Code) → result_of scope e ≡ Some (returned (bool_value true)) → eval job (suc d) h done (if_tail at e a b) scope ps ≡ eval job d (noted h Plain) done (inside a) scope ps
   takes_first e a b is = rw is refl
 
-  pub takes_second : (e : Term) (a b : Code) → result_of scope e ≡ Some (returned (bool_value false)) → eval job (suc d) h done (branch at e a b) scope ps ≡ eval job d (noted h Plain) done (inside b) scope ps
+  pub takes_second : (e : Term) (a b : Code) → result_of scope e ≡ Some (returned (bool_value false)) → eval job (suc d) h done (if_tail at e a b) scope ps ≡ eval job d (noted h Plain) done (inside b) scope ps
   takes_second e a b is = rw is refl
 
   pub writes : (e : Term) (k : Body) (z : ℤ) → result_of scope e ≡ Some (returned (int_value z)) →

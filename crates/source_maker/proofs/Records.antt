@@ -1,7 +1,7 @@
 -- The records of all threads.
 use Rattle.std.proofs.Common.{◌≡◌, ℕ, zero, suc, ◌+◌, ◌*◌, ◌≤◌, List, [], ◌∷◌, ◌++◌, Some, length, refl, ◌∙◌, ap, arith, pos, length-append}
 use Rattle.priml_syntax.specs.declared.prio.Prio.TheVariants.{Const}
-use Rattle.priml_syntax.specs.Tree.{var, number, Body, bind, give, output, inside}
+use Rattle.priml_syntax.specs.Tree.{var, number, Body, bind, ret_tail, output, inside}
 use Rattle.priml_syntax.specs.Values.{Value', int_value, thread_value, unit_value, returned, Entry}
 use Rattle.priml_syntax.specs.Records.{work}
 use Rattle.priml_syntax.specs.declared.event.Event.{Event}
@@ -38,7 +38,7 @@ module _ (n d : ℕ) (small : n ≤ 5000) where
   chain_done =
       let digits = length (decimal n) in
       ap closing
-      (calls (made_job n) (suc (suc (fuel_for n d))) (entered (0 ∷ 0 ∷ []) 0) [] [] [] 340 1 (number 351 (pos n) ∷ []) (give (digits + 354) (var (digits + 358) 0)) (int_value (pos n) ∷ []) (procedure 113 chain_code)
+      (calls (made_job n) (suc (suc (fuel_for n d))) (entered (0 ∷ 0 ∷ []) 0) [] [] [] 340 1 (number 351 (pos n) ∷ []) (ret_tail (digits + 354) (var (digits + 358) 0)) (int_value (pos n) ∷ []) (procedure 113 chain_code)
       (int_value (pos (total n))) (chain_at (0 + n) (chain_events n)) (leaves 0 n) refl refl
       (chain_gives n n 0 d (Start ∷ Plain ∷ []) [] (omega arith) tt)
       ∙ gives (made_job n) (suc (fuel_for n d)) (chain_at (0 + n) (chain_events n ++ Plain ∷ [])) (leaves 0 n) (int_value (pos (total n)) ∷ []) [] (digits + 354) (var (digits + 358) 0) (int_value (pos (total n))) refl)
@@ -47,7 +47,7 @@ module _ (n d : ℕ) (small : n ≤ 5000) where
   root_done : closing (eval (made_job n) (suc (suc (suc (suc (fuel_for n d))))) (entered (0 ∷ []) 1) [] (inside (main_code n)) [] []) ≡ Some (records n)
   root_done =
       let digits = length (decimal n) in
-      let last : Body = give (2 * digits + 381) (number (2 * digits + 385) (pos n)) in
+      let last : Body = ret_tail (2 * digits + 381) (number (2 * digits + 385) (pos n)) in
       let write : Body = bind (digits + 370) (output (number (digits + 377) (pos n))) last in
       let scope : List Value' = thread_value (0 ∷ 0 ∷ []) 0 ∷ [] in
       ap closing

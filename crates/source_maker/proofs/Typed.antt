@@ -5,9 +5,9 @@ use Rattle.std.specs.List.{Contains}
 use Rattle.std.proofs.lemmas.List.Elements.{All-nil, All-cons}
 use Rattle.priml_syntax.specs.declared.prio.Prio.TheVariants.{Const}
 use Rattle.priml_syntax.specs.Tree.{unit, int, thread, Term, Routine}
-use Rattle.priority_order.specs.Order.{Pair, Leads, IsLawful}
+use Rattle.priority_order.specs.Order.{Pair, IsChain, IsLawful}
 use Rattle.constraint_proof.specs.Entailed.{by_reflexive}
-use Rattle.type_rules.specs.Typing.{Scope, Setting, HaveTypes, CallFits, CodeHas}
+use Rattle.type_rules.specs.Typing.{VarTypes, Context, HaveTypes, CallFits, CodeHas}
 use Rattle.type_rules.specs.Typable.{RoutineTyped, Typable}
 use Rattle.source_maker.specs.Tree.{leaf_code, call_leaf, chain_rest, chain_code, call_chain, main_code, procedure, made_tree}
 
@@ -21,7 +21,7 @@ one_pair p c = go c.0 c.1 c.2
     go zero l e = (ap (λ (q : Pair). q.0) (sym e), ap (λ (q : Pair). q.1) (sym e))
     go (suc k) l e = absurd (omega arith)
 
-rises : (path : List Pair) (a b : ℕ) → Leads one a path b → a ≤ b
+rises : (path : List Pair) (a b : ℕ) → IsChain one a path b → a ≤ b
 rises [] a b e = omega arith
 rises (p ∷ path) a b h =
     let c = one_pair p h.0 in
@@ -36,13 +36,13 @@ lawful = record {
 
 -- a call of one of the two procedures, each of which takes a number and gives one
 module _ (n : ℕ) where
-  abbrev at_main : Setting
+  abbrev at_main : Context
   at_main = record { pairs = one; procs = (procedure 41 leaf_code).declares ∷ (procedure 113 chain_code).declares ∷ []; given = [] }
 
-  calls_leaf : (G : Scope) (e : Term) → HaveTypes G (e ∷ []) (int ∷ []) → CallFits at_main G (Const 0) 0 [] (e ∷ []) int
+  calls_leaf : (G : VarTypes) (e : Term) → HaveTypes G (e ∷ []) (int ∷ []) → CallFits at_main G (Const 0) 0 [] (e ∷ []) int
   calls_leaf G e h = record { sig = (procedure 41 leaf_code).declares; is = refl; prios = refl; arguments = h; own = refl; constraints = All-nil _; gives = refl }
 
-  calls_chain : (G : Scope) (e : Term) → HaveTypes G (e ∷ []) (int ∷ []) → CallFits at_main G (Const 0) 1 [] (e ∷ []) int
+  calls_chain : (G : VarTypes) (e : Term) → HaveTypes G (e ∷ []) (int ∷ []) → CallFits at_main G (Const 0) 1 [] (e ∷ []) int
   calls_chain G e h = record { sig = (procedure 113 chain_code).declares; is = refl; prios = refl; arguments = h; own = refl; constraints = All-nil _; gives = refl }
 
   leaf_typed : CodeHas leaf_code at_main (int ∷ []) (Const 0) int

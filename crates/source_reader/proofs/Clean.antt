@@ -7,7 +7,7 @@ use Rattle.priml_syntax.specs.Size.{type_nodes}
 use Rattle.priml_syntax.specs.Scoped as scoped
 use Rattle.priml_syntax.specs.Scoped.{PrioIn, PriosIn, TypeIn, Written, TermIn, TermsIn, CodeIn, BodyIn, ActIn}
 use Rattle.source_grammar.specs.declared.raw.Name.{Name}
-use Rattle.source_grammar.specs.RawTree.{RawType, unit, bool, int, pair, sum, thread, WrittenType, RawTerm, var, number, truth, nothing, both, first, second, left, right, binary, negated, RawCode, block, RawBody, bind, give, branch, split, RawAct, ret, spawn, sync, call, run, input, output}
+use Rattle.source_grammar.specs.RawTree.{RawType, unit, bool, int, pair, sum, thread, WrittenType, RawTerm, var, number, bool_term, unit_term, pair_term, first, second, left, right, binary, negated, RawCode, block, RawBody, bind, ret_tail, if_tail, case_tail, RawAct, ret, spawn, sync, call, do_block, input, output}
 use Rattle.source_reader.specs.declared.faults.Fault.TheVariants.{UnknownName, TooMany}
 use Rattle.source_reader.specs.declared.faults.What.TheVariants as what
 use Rattle.source_reader.specs.Names.{lookup, is_among, Env, prio_named, prio_in, prio_of}
@@ -17,12 +17,12 @@ use Rattle.source_reader.proofs.Lists.{no_faults, holds, has_room, within}
 use Rattle.source_reader.proofs.Lookup.{lookup_within}
 
 -- each name stands for a priority, a priority variable or a procedure in scope
-pub record Places (s : scoped.Scope) (env : Env) : Type 0 where
+pub record Places (s : scoped.NameCounts) (env : Env) : Type 0 where
   pub prios : (id k : ℕ) → env.prios id ≡ Some k → k < s.prios
   pub vars : (id k : ℕ) → lookup id env.vars ≡ Some k → k < s.vars
   pub procs : (id k : ℕ) → env.procs id ≡ Some k → k < s.procs
 
-named_in : (s : scoped.Scope) (v d : Option ℕ) → ((k : ℕ) → v ≡ Some k → k < s.vars) → ((k : ℕ) → d ≡ Some k → k < s.prios) → is_some (prio_named v d) ≡ true → PrioIn s (unwrap_or (prio_named v d) (Const 0))
+named_in : (s : scoped.NameCounts) (v d : Option ℕ) → ((k : ℕ) → v ≡ Some k → k < s.vars) → ((k : ℕ) → d ≡ Some k → k < s.prios) → is_some (prio_named v d) ≡ true → PrioIn s (unwrap_or (prio_named v d) (Const 0))
 named_in s (Some k) d h g e = h k refl
 named_in s None (Some k) h g e = g k refl
 named_in s None None h g e = absurd (cc)
@@ -41,7 +41,7 @@ few_nodes n e = grind (arith, nat_tests)
 var_scoped : (at id : ℕ) (scope : List ℕ) → unless (is_among id scope) (UnknownName at) ≡ [] → unwrap_or (lookup id scope) 0 < length scope
 var_scoped at id scope e = within (lookup id scope) (length scope) (UnknownName at) (λ k q. lookup_within scope id k q) e
 
-module _ (s : scoped.Scope) (env : Env) (places : Places s env) where
+module _ (s : scoped.NameCounts) (env : Env) (places : Places s env) where
   pub prio_scoped : (n : Name) → prio_faults env n ≡ [] → PrioIn s (prio_of env n.id)
   prio_scoped n e = named_in s (lookup n.id env.vars) (env.prios n.id) (λ k q. places.vars n.id k q) (λ k q. places.prios n.id k q) (holds (is_some (prio_in env n.id)) (UnknownName n.at) e)
 
@@ -67,9 +67,9 @@ module _ (s : scoped.Scope) (env : Env) (places : Places s env) where
   pub term_scoped : (t : RawTerm) (scope : List ℕ) → term_faults env t scope ≡ [] → TermIn s (length scope) (term_meant env t scope)
   term_scoped (var at id) scope e = var_scoped at id scope e
   term_scoped (number at n) scope e = tt
-  term_scoped (truth at b) scope e = tt
-  term_scoped (nothing at) scope e = tt
-  term_scoped (both at a b) scope e = let p = no_faults (term_faults env a scope) (term_faults env b scope) e in (term_scoped a scope p.0, term_scoped b scope p.1)
+  term_scoped (bool_term at b) scope e = tt
+  term_scoped (unit_term at) scope e = tt
+  term_scoped (pair_term at a b) scope e = let p = no_faults (term_faults env a scope) (term_faults env b scope) e in (term_scoped a scope p.0, term_scoped b scope p.1)
   term_scoped (first at a) scope e = term_scoped a scope e
   term_scoped (second at a) scope e = term_scoped a scope e
   term_scoped (left at w a) scope e = let p = no_faults (written_faults env w) (term_faults env a scope) e in (written_scoped w p.0, term_scoped a scope p.1)
@@ -97,12 +97,12 @@ module _ (s : scoped.Scope) (env : Env) (places : Places s env) where
           has_room n.at (length scope) 32 what.Scope p.0,
           subst (BodyIn (body_meant rest env (scope ++ n.id ∷ [])) s) (length-append scope (n.id ∷ [])) (body_scoped rest (scope ++ n.id ∷ []) q.1),
         )
-    body_scoped (give at t) scope e = term_scoped t scope e
-    body_scoped (branch at t a b) scope e =
+    body_scoped (ret_tail at t) scope e = term_scoped t scope e
+    body_scoped (if_tail at t a b) scope e =
         let p = no_faults (term_faults env t scope) (code_faults a env scope ++ code_faults b env scope) e in
         let q = no_faults (code_faults a env scope) (code_faults b env scope) p.1 in
         (term_scoped t scope p.0, code_scoped a scope q.0, code_scoped b scope q.1)
-    body_scoped (split at t m a n b) scope e =
+    body_scoped (case_tail at t m a n b) scope e =
         let fa = scope_faults m scope ++ code_faults a env (scope ++ m.id ∷ []) in
         let fb = scope_faults n scope ++ code_faults b env (scope ++ n.id ∷ []) in
         let p = no_faults (term_faults env t scope) (fa ++ fb) e in
@@ -123,6 +123,6 @@ module _ (s : scoped.Scope) (env : Env) (places : Places s env) where
         let p = no_faults (proc_faults env f) (prios_faults env ps ++ terms_faults env ts scope) e in
         let q = no_faults (prios_faults env ps) (terms_faults env ts scope) p.1 in
         (within (env.procs f.id) s.procs (UnknownName f.at) (λ k q. places.procs f.id k q) p.0, prios_scoped ps q.0, terms_scoped ts scope q.1)
-    act_scoped (run b) scope e = code_scoped b scope e
+    act_scoped (do_block b) scope e = code_scoped b scope e
     act_scoped input scope e = tt
     act_scoped (output t) scope e = term_scoped t scope e

@@ -9,7 +9,7 @@ use Rattle.source_reader.specs.declared.faults.What.{What}
 use Rattle.source_reader.specs.declared.faults.ResolveStop.{ResolveStop}
 use Rattle.source_reader.specs.declared.faults.ResolveStop.TheVariants as stop
 use Rattle.source_reader.specs.Faults.{room_faults, unless}
-use Rattle.source_reader.specs.Gives.{First, Gives, Finds}
+use Rattle.source_reader.specs.Gives.{First, IsMade, Finds}
 
 -- the first fault of a part is the first of the whole, where none stands before it
 pub gives_first : (fs gs hs : List Fault) (e : ResolveStop) → fs ≡ gs ++ hs → First gs e → First fs e
@@ -21,22 +21,22 @@ pub gives_second : (fs es gs hs : List Fault) (e : ResolveStop) → fs ≡ es ++
 gives_second fs es gs hs e p none g = gives_first fs gs hs e (rw (p, none) refl) g
 
 -- the error that a `?` hands on
-pub handed_on : {A B : Type 0} (fs : List Fault) (made : B) (read : A → B) (e : ResolveStop) (result : Result A ResolveStop) → IsErrAnd result (λ y. y ≡ e) → First fs e → Gives fs made read result
+pub handed_on : {A B : Type 0} (fs : List Fault) (made : B) (read : A → B) (e : ResolveStop) (result : Result A ResolveStop) → IsErrAnd result (λ y. y ≡ e) → First fs e → IsMade fs made read result
 handed_on fs made read e (Ok x) is h = absurd is
 handed_on fs made read e (Err y) is h = subst (First fs) (sym is) h
 
 -- the error of the first part, where more come behind it
-pub handed_left : {A B : Type 0} (gs hs : List Fault) (made : B) (read : A → B) (e : ResolveStop) (result : Result A ResolveStop) → IsErrAnd result (λ y. y ≡ e) → First gs e → Gives (gs ++ hs) made read result
+pub handed_left : {A B : Type 0} (gs hs : List Fault) (made : B) (read : A → B) (e : ResolveStop) (result : Result A ResolveStop) → IsErrAnd result (λ y. y ≡ e) → First gs e → IsMade (gs ++ hs) made read result
 handed_left gs hs made read e result is h = handed_on (gs ++ hs) made read e result is (gives_first (gs ++ hs) gs hs e refl h)
 
 -- the same, where the first part was walked as that of an equal thing
 pub handed_first : {A B X : Type 0} {x y : X} → x ≡ y → (fs : List Fault) (part : X → List Fault) (hs : List Fault) (made : B) (read : A → B) (e : ResolveStop) (result : Result A ResolveStop)
-    → fs ≡ part y ++ hs → IsErrAnd result (λ z. z ≡ e) → First (part x) e → Gives fs made read result
+    → fs ≡ part y ++ hs → IsErrAnd result (λ z. z ≡ e) → First (part x) e → IsMade fs made read result
 handed_first {y = y} same fs part hs made read e result whole is h = handed_on fs made read e result is (gives_first fs (part y) hs e whole (subst (λ z. First (part z) e) same h))
 
 -- and for a second part, where the first has none
 pub handed_second : {A B X : Type 0} {x y : X} → x ≡ y → (fs es : List Fault) (part : X → List Fault) (hs : List Fault) (made : B) (read : A → B) (e : ResolveStop) (result : Result A ResolveStop)
-    → fs ≡ es ++ (part y ++ hs) → es ≡ [] → IsErrAnd result (λ z. z ≡ e) → First (part x) e → Gives fs made read result
+    → fs ≡ es ++ (part y ++ hs) → es ≡ [] → IsErrAnd result (λ z. z ≡ e) → First (part x) e → IsMade fs made read result
 handed_second {y = y} same fs es part hs made read e result whole none is h = handed_on fs made read e result is (gives_second fs es (part y) hs e whole none (subst (λ z. First (part z) e) same h))
 
 pub found_first : {A : Type 0} (fs : List Fault) (e : ResolveStop) (result : Result A ResolveStop) → IsErrAnd result (λ y. y ≡ e) → First fs e → Finds fs result

@@ -1,7 +1,7 @@
 -- Places that are kept as numbers of u32: no fault is another, and where the limits are kept each place is as it was.
 use Rattle.std.proofs.Common.{◌≡◌, ℕ, ◌+◌, ◌<◌, ◌≤◌, is_some, nat_le, Option, Some, None, List, [], ◌∷◌, ◌++◌, length, arith, refl, ap, ap₂}
 use Rattle.source_grammar.specs.declared.raw.Name.{Name}
-use Rattle.source_grammar.specs.RawTree.{RawType, unit, bool, int, pair, sum, thread, WrittenType, RawTerm, var, number, truth, nothing, both, first, second, left, right, binary, negated, RawCode, block, RawBody, bind, give, branch, split, RawAct, ret, spawn, sync, call, run, input, output, Parameter, RawProcedure, Declaration, priority, order, procedure, RawRoutine}
+use Rattle.source_grammar.specs.RawTree.{RawType, unit, bool, int, pair, sum, thread, WrittenType, RawTerm, var, number, bool_term, unit_term, pair_term, first, second, left, right, binary, negated, RawCode, block, RawBody, bind, ret_tail, if_tail, case_tail, RawAct, ret, spawn, sync, call, do_block, input, output, Parameter, RawProcedure, Declaration, priority, order, procedure, RawRoutine}
 use Rattle.source_reader.specs.declared.faults.Fault.{Fault}
 use Rattle.source_reader.specs.declared.faults.Fault.TheVariants.{UnknownName, TooMany}
 use Rattle.source_reader.specs.declared.faults.What.TheVariants.{Pairs, Procedures, Constraints, Parameters, TypeNodes}
@@ -52,9 +52,9 @@ module _ (env : Env) where
   term_same : (t : RawTerm) (scope : List ℕ) → term_faults (narrowed env) t scope ≡ term_faults env t scope
   term_same (var at id) scope = refl
   term_same (number at n) scope = refl
-  term_same (truth at b) scope = refl
-  term_same (nothing at) scope = refl
-  term_same (both at a b) scope = join (term_same a scope) (term_same b scope)
+  term_same (bool_term at b) scope = refl
+  term_same (unit_term at) scope = refl
+  term_same (pair_term at a b) scope = join (term_same a scope) (term_same b scope)
   term_same (first at a) scope = term_same a scope
   term_same (second at a) scope = term_same a scope
   term_same (left at w a) scope = join (written_same w) (term_same a scope)
@@ -72,9 +72,9 @@ module _ (env : Env) where
 
     body_same : (b : RawBody) (scope : List ℕ) → body_faults b (narrowed env) scope ≡ body_faults b env scope
     body_same (bind n at a rest) scope = behind (scope_faults n scope) (join (act_same a scope) (body_same rest (scope ++ n.id ∷ [])))
-    body_same (give at e) scope = term_same e scope
-    body_same (branch at e a b) scope = join (term_same e scope) (join (code_same a scope) (code_same b scope))
-    body_same (split at e m a n b) scope =
+    body_same (ret_tail at e) scope = term_same e scope
+    body_same (if_tail at e a b) scope = join (term_same e scope) (join (code_same a scope) (code_same b scope))
+    body_same (case_tail at e m a n b) scope =
         join (term_same e scope) (join (behind (scope_faults m scope) (code_same a (scope ++ m.id ∷ []))) (behind (scope_faults n scope) (code_same b (scope ++ n.id ∷ []))))
 
     act_same : (a : RawAct) (scope : List ℕ) → act_faults a (narrowed env) scope ≡ act_faults a env scope
@@ -82,7 +82,7 @@ module _ (env : Env) where
     act_same (spawn p b) scope = join (prio_same p) (code_same b scope)
     act_same (sync h) scope = refl
     act_same (call f ps es) scope = join (proc_same f) (join (prios_same ps) (terms_same es scope))
-    act_same (run b) scope = code_same b scope
+    act_same (do_block b) scope = code_same b scope
     act_same input scope = refl
     act_same (output e) scope = term_same e scope
 

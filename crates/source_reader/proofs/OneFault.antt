@@ -20,7 +20,7 @@ use Rattle.source_reader.specs.declared.reader.SourceFault.{SourceFault}
 use Rattle.source_reader.specs.declared.reader.SourceFault.TheVariants.{BadByte, BadNumber, Unexpected, UnknownName, TwiceNamed, TooDeep, TooMany, OutOfMemory}
 use Rattle.source_reader.specs.Faults.{faults}
 use Rattle.source_reader.specs.Resolved.{resolved}
-use Rattle.source_reader.specs.Stands.{Stands, IsFirst, as_source, IsFaultOf, bad_byte, bad_number, too_deep, unexpected, cut_off, of_names, Refuses}
+use Rattle.source_reader.specs.Stands.{Stands, IsFirst, as_source, IsFaultOf, bad_byte, bad_number, too_deep, unexpected, cut_off, of_names, IsRefused}
 use Rattle.source_reader.specs.Written.{stop_fault}
 use Rattle.source_reader.proofs.Ordered.{one_first}
 
@@ -140,7 +140,7 @@ one_program text p q a b =
     sym a.meant ∙ ap (λ names. resolved names a.raw) same.1 ∙ ap (resolved b.names) raws ∙ b.meant
 
 -- so the fault of a refusal is the only one
-refusal_fault : (text : List ℕ) (e : SourceFault) → e ≢ OutOfMemory → Refuses text e → IsFaultOf text e
+refusal_fault : (text : List ℕ) (e : SourceFault) → e ≢ OutOfMemory → IsRefused text e → IsFaultOf text e
 refusal_fault text (BadByte at) some h = h.0
 refusal_fault text (BadNumber at) some h = h.0
 refusal_fault text (Unexpected at) some h = h.0
@@ -150,14 +150,14 @@ refusal_fault text (TooDeep at) some h = h.0
 refusal_fault text (TooMany at what) some h = h.0
 refusal_fault text OutOfMemory some h = absurd (some refl)
 
-refused_once : (text : List ℕ) (e : SourceFault) → Refuses text e → e ≢ OutOfMemory → (f : SourceFault) → IsFaultOf text f → f ≡ e
+refused_once : (text : List ℕ) (e : SourceFault) → IsRefused text e → e ≢ OutOfMemory → (f : SourceFault) → IsFaultOf text f → f ≡ e
 refused_once text e h some f is = one_fault text f e is (refusal_fault text e some h)
 
-pub once_if : {A : Type 0} (text : List ℕ) (result : Result A SourceFault) → IfErr result (Refuses text) → IfErr result (λ e. e ≢ OutOfMemory → (f : SourceFault) → IsFaultOf text f → f ≡ e)
+pub once_if : {A : Type 0} (text : List ℕ) (result : Result A SourceFault) → IfErr result (IsRefused text) → IfErr result (λ e. e ≢ OutOfMemory → (f : SourceFault) → IsFaultOf text f → f ≡ e)
 once_if text (Ok x) h = tt
 once_if text (Err e) h = refused_once text e h
 
 -- and the one that a `?` hands on is refused as it was
-pub handed : {A : Type 0} (text : List ℕ) (e : SourceFault) (result : Result A SourceFault) → IsErrAnd result (λ y. y ≡ e) → Refuses text e → IfErr result (Refuses text)
+pub handed : {A : Type 0} (text : List ℕ) (e : SourceFault) (result : Result A SourceFault) → IsErrAnd result (λ y. y ≡ e) → IsRefused text e → IfErr result (IsRefused text)
 handed text e (Ok x) is h = absurd is
-handed text e (Err y) is h = subst (Refuses text) (sym is) h
+handed text e (Err y) is h = subst (IsRefused text) (sym is) h

@@ -1,7 +1,7 @@
 -- Laws of the order of faults.
 use Rattle.std.proofs.Common.{◌≡◌, ℕ, ◌<◌, ◌≤◌, ◌⊎◌, inl, inr, List, [], ◌∷◌, ◌++◌, arith, sym, subst, ◌∙◌}
 use Rattle.source_reader.specs.declared.faults.Fault.{Fault}
-use Rattle.source_reader.specs.Order.{place, Before, Leads, Ascends, Between, Within}
+use Rattle.source_reader.specs.Order.{place, Before, IsBeforeAll, Ascends, Between, Within}
 use Rattle.source_reader.specs.Stands.{IsFirst}
 
 pub widen : (a b c d : ℕ) (fs : List Fault) → a ≤ b → c ≤ d → Between b c fs → Between a d fs
@@ -12,11 +12,11 @@ both_between : (a b : ℕ) (fs gs : List Fault) → Between a b fs → Between a
 both_between a b [] gs h k = k
 both_between a b (f ∷ fs) gs h k = (h.0, h.1, both_between a b fs gs h.2 k)
 
-leads_behind : (f : Fault) (low high : ℕ) (gs : List Fault) → place f < low → Between low high gs → Leads f gs
+leads_behind : (f : Fault) (low high : ℕ) (gs : List Fault) → place f < low → Between low high gs → IsBeforeAll f gs
 leads_behind f low high [] l h = tt
 leads_behind f low high (g ∷ gs) l h = (inl (omega (arith, l, h.0)), leads_behind f low high gs l h.2)
 
-leads_both : (f : Fault) (fs gs : List Fault) → Leads f fs → Leads f gs → Leads f (fs ++ gs)
+leads_both : (f : Fault) (fs gs : List Fault) → IsBeforeAll f fs → IsBeforeAll f gs → IsBeforeAll f (fs ++ gs)
 leads_both f [] gs h k = k
 leads_both f (x ∷ xs) gs h k = (h.0, leads_both f xs gs h.1 k)
 
@@ -32,13 +32,13 @@ behind a mid b fs gs l r h k = record {
 }
 
 -- a fault that is not the one that leads stands behind it
-led : (f g : Fault) (bs cs : List Fault) → Leads f (bs ++ g ∷ cs) → Before f g
+led : (f g : Fault) (bs cs : List Fault) → IsBeforeAll f (bs ++ g ∷ cs) → Before f g
 led f g [] cs h = h.0
 led f g (b ∷ bs) cs h = led f g bs cs h.1
 
-same_or_behind : (f g : Fault) (ps bs cs ds : List Fault) → ps ++ f ∷ bs ≡ cs ++ g ∷ ds → Leads f (ps ++ bs) → (f ≡ g) ⊎ Before f g
+same_or_behind : (f g : Fault) (ps bs cs ds : List Fault) → ps ++ f ∷ bs ≡ cs ++ g ∷ ds → IsBeforeAll f (ps ++ bs) → (f ≡ g) ⊎ Before f g
 same_or_behind f g [] bs [] ds e h = inl (cc)
-same_or_behind f g [] bs (c ∷ cs) ds e h = let rest : bs ≡ cs ++ g ∷ ds = cc in inr (led f g cs ds (subst (Leads f) rest h))
+same_or_behind f g [] bs (c ∷ cs) ds e h = let rest : bs ≡ cs ++ g ∷ ds = cc in inr (led f g cs ds (subst (IsBeforeAll f) rest h))
 same_or_behind f g (a ∷ ps) bs [] ds e h = let head : a ≡ g = cc in inr (subst (Before f) head h.0)
 same_or_behind f g (a ∷ ps) bs (c ∷ cs) ds e h = let rest : ps ++ f ∷ bs ≡ cs ++ g ∷ ds = cc in same_or_behind f g ps bs cs ds rest h.1
 

@@ -40,10 +40,10 @@ few_givens env (g ∷ gs) before e few =
     let h = few_givens env gs (before + 1) p.1 (omega (arith, r)) in
     omega (arith, h)
 
-abbrev InScope : scoped.Scope → Constraint → Type 0
+abbrev InScope : scoped.NameCounts → Constraint → Type 0
 InScope s c = PrioIn s c.0 × PrioIn s c.1
 
-givens_scoped : (s : scoped.Scope) (env : Env) → Places s env → (gs : List (Name × Name)) (before : ℕ) → givens_faults env gs before ≡ [] → All (InScope s) (map (given_meant env) gs)
+givens_scoped : (s : scoped.NameCounts) (env : Env) → Places s env → (gs : List (Name × Name)) (before : ℕ) → givens_faults env gs before ≡ [] → All (InScope s) (map (given_meant env) gs)
 givens_scoped s env places [] before e = All-nil (InScope s)
 givens_scoped s env places (g ∷ gs) before e =
     let p = no_faults (prio_faults env g.0 ++ (room_faults g.0.at before 16 what.Constraints ++ prio_faults env g.1)) (givens_faults env gs (before + 1)) e in
@@ -61,7 +61,7 @@ few_params env (x ∷ ps) before e few =
     let h = few_params env ps (before ++ x.name.id ∷ []) p.1 (omega (arith, r, l)) in
     omega (arith, l, h)
 
-params_scoped : (s : scoped.Scope) (env : Env) → Places s env → (ps : List Parameter) (before : List ℕ) → params_faults env ps before ≡ [] → All (Written s) (map (param_meant env) ps)
+params_scoped : (s : scoped.NameCounts) (env : Env) → Places s env → (ps : List Parameter) (before : List ℕ) → params_faults env ps before ≡ [] → All (Written s) (map (param_meant env) ps)
 params_scoped s env places [] before e = All-nil (Written s)
 params_scoped s env places (x ∷ ps) before e =
     let p = no_faults (again_faults x.name before 8 what.Parameters ++ written_faults env x.ty) (params_faults env ps (before ++ x.name.id ∷ [])) e in

@@ -18,12 +18,12 @@ use Rattle.source_reader.specs.declared.reader.SourceFault.TheVariants.{BadByte,
 use Rattle.source_reader.specs.Faults.{faults}
 use Rattle.source_reader.specs.Order.{Ascends}
 use Rattle.source_reader.specs.Resolved.{resolved}
-use Rattle.source_reader.specs.Stands.{Stands, IsFirst, IsFaultOf, bad_byte, bad_number, too_deep, unexpected, cut_off, of_names, Refuses}
+use Rattle.source_reader.specs.Stands.{Stands, IsFirst, IsFaultOf, bad_byte, bad_number, too_deep, unexpected, cut_off, of_names, IsRefused}
 use Rattle.source_reader.specs.Written.{IsWrittenAs, IsFirstOf, stop_fault}
 use Rattle.source_reader.proofs.Routines.{resolved_scoped}
 
 -- a refusal is a fault of a text that stands for no program
-pub refusal : (text : List ℕ) (e : SourceFault) → IsFaultOf text e → ((p : Tree) → Stands text p → ⊥) → Refuses text e
+pub refusal : (text : List ℕ) (e : SourceFault) → IsFaultOf text e → ((p : Tree) → Stands text p → ⊥) → IsRefused text e
 refusal text (BadByte at) f none = (f, none)
 refusal text (BadNumber at) f none = (f, none)
 refusal text (Unexpected at) f none = (f, none)
@@ -42,24 +42,24 @@ pub no_stopped : (text : List ℕ) (ts : List Token) (ns : List (List ℕ)) (end
 no_stopped text ts ns end lexed stopped p s = stopped (lexed_once text s.tokens ts s.names ns stop.Done end s.lexed lexed).2
 
 -- the fault at which a text stops, where all tokens before it begin some program
-pub stopped_at : (text : List ℕ) (ts : List Token) (ns : List (List ℕ)) (end : Stop) (e : SourceFault) → stop_fault end ≡ Some e → IsLexed text ts ns end → Viable (kinds ts) → Refuses text e
+pub stopped_at : (text : List ℕ) (ts : List Token) (ns : List (List ℕ)) (end : Stop) (e : SourceFault) → stop_fault end ≡ Some e → IsLexed text ts ns end → Viable (kinds ts) → IsRefused text e
 stopped_at text ts ns stop.Done e is lexed viable = absurd (cc)
 stopped_at text ts ns (stop.BadByte at) e is lexed viable =
     let same : BadByte at ≡ e = cc in
-    subst (Refuses text) same (bad_byte at lexed viable, no_stopped text ts ns (stop.BadByte at) lexed (λ q. absurd (cc)))
+    subst (IsRefused text) same (bad_byte at lexed viable, no_stopped text ts ns (stop.BadByte at) lexed (λ q. absurd (cc)))
 stopped_at text ts ns (stop.BadNumber at) e is lexed viable =
     let same : BadNumber at ≡ e = cc in
-    subst (Refuses text) same (bad_number at lexed viable, no_stopped text ts ns (stop.BadNumber at) lexed (λ q. absurd (cc)))
+    subst (IsRefused text) same (bad_number at lexed viable, no_stopped text ts ns (stop.BadNumber at) lexed (λ q. absurd (cc)))
 stopped_at text ts ns (stop.TooDeep at) e is lexed viable =
     let same : TooDeep at ≡ e = cc in
-    subst (Refuses text) same (too_deep at lexed viable, no_stopped text ts ns (stop.TooDeep at) lexed (λ q. absurd (cc)))
+    subst (IsRefused text) same (too_deep at lexed viable, no_stopped text ts ns (stop.TooDeep at) lexed (λ q. absurd (cc)))
 
 -- the tokens of a program begin one
 pub all_viable : (ts : List Token) (q : RawTree) → IsProgram ts q → Viable (kinds ts)
 all_viable ts q is = record { tokens = ts; more = []; tree = q; same = refl; is = subst (λ v. IsProgram v q) (sym (append-nil ts)) is }
 
 -- a token with which the text leaves the grammar
-pub leaves : (text : List ℕ) (ts : List Token) (ns : List (List ℕ)) (end : Stop) (n : ℕ) (t : Token) → IsLexed text ts ns end → IsUnexpected ts n → slice_get ts n ≡ Some t → Refuses text (Unexpected t.at)
+pub leaves : (text : List ℕ) (ts : List Token) (ns : List (List ℕ)) (end : Stop) (n : ℕ) (t : Token) → IsLexed text ts ns end → IsUnexpected ts n → slice_get ts n ≡ Some t → IsRefused text (Unexpected t.at)
 leaves text ts ns end n t lexed is at = (unexpected n t lexed is at, no_program text ts ns end lexed is.none)
 
 -- no token stands behind them all
@@ -73,11 +73,11 @@ past ts n none = by (slice_get_cases ts n).1 where
 pub all_before : (ts : List Token) (n : ℕ) → length ts ≤ n → IsUnexpected ts n → Viable (kinds ts)
 all_before ts n l is = subst (λ v. Viable (kinds v)) (take_all n ts l) is.before
 
-pub stops_behind : (text : List ℕ) (ts : List Token) (ns : List (List ℕ)) (end : Stop) (n : ℕ) (e : SourceFault) → length ts ≤ n → IsUnexpected ts n → stop_fault end ≡ Some e → IsLexed text ts ns end → Refuses text e
+pub stops_behind : (text : List ℕ) (ts : List Token) (ns : List (List ℕ)) (end : Stop) (n : ℕ) (e : SourceFault) → length ts ≤ n → IsUnexpected ts n → stop_fault end ≡ Some e → IsLexed text ts ns end → IsRefused text e
 stops_behind text ts ns end n e l is stops lexed = stopped_at text ts ns end e stops lexed (all_before ts n l is)
 
 -- or ends there
-pub ends_behind : (text : List ℕ) (ts : List Token) (ns : List (List ℕ)) (end : Stop) (n : ℕ) → length ts ≤ n → IsUnexpected ts n → stop_fault end ≡ None → IsLexed text ts ns end → Refuses text (Unexpected (length text))
+pub ends_behind : (text : List ℕ) (ts : List Token) (ns : List (List ℕ)) (end : Stop) (n : ℕ) → length ts ≤ n → IsUnexpected ts n → stop_fault end ≡ None → IsLexed text ts ns end → IsRefused text (Unexpected (length text))
 ends_behind text ts ns stop.Done n l is ends lexed =
     let w = is.within in
     let same : n ≡ length ts = omega (arith, l, w) in
@@ -116,7 +116,7 @@ pub only_as : (text : List ℕ) (ns : List (List ℕ)) (raw : RawTree) (p : Tree
 only_as text ns raw p only meant = λ q s. let same = only s.names s.raw (as_written text q s) in sym s.meant ∙ same_meaning ns s.names raw s.raw same.0 same.1 ∙ meant
 
 -- the first fault of names and limits is the fault of the text
-names_fault : (text : List ℕ) (ns : List (List ℕ)) (raw : RawTree) (e : SourceFault) → IsWrittenAs text ns raw → IsOnly text ns raw → Ascends (faults raw) → IsFirstOf (faults raw) e → Refuses text e
+names_fault : (text : List ℕ) (ns : List (List ℕ)) (raw : RawTree) (e : SourceFault) → IsWrittenAs text ns raw → IsOnly text ns raw → Ascends (faults raw) → IsFirstOf (faults raw) e → IsRefused text e
 names_fault text ns raw e w only up first =
     let f = first.fault in
     let is : IsFirst f (faults raw) = record { before = []; after = first.rest; among = first.among; leads = (subst Ascends first.among up).0 } in
@@ -124,7 +124,7 @@ names_fault text ns raw e w only up first =
     refusal text e (subst (IsFaultOf text) (sym first.is) (of_names f w.lexed w.derived is)) none
 
 pub refuses : (text : List ℕ) (ns : List (List ℕ)) (raw : RawTree) (e : SourceFault) → IsWrittenAs text ns raw → IsOnly text ns raw → Ascends (faults raw)
-    → (e ≢ OutOfMemory → IsFirstOf (faults raw) e) → Refuses text e
+    → (e ≢ OutOfMemory → IsFirstOf (faults raw) e) → IsRefused text e
 refuses text ns raw (BadByte at) w only up h = names_fault text ns raw (BadByte at) w only up (h (λ q. absurd (cc)))
 refuses text ns raw (BadNumber at) w only up h = names_fault text ns raw (BadNumber at) w only up (h (λ q. absurd (cc)))
 refuses text ns raw (Unexpected at) w only up h = names_fault text ns raw (Unexpected at) w only up (h (λ q. absurd (cc)))

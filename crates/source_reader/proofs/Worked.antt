@@ -5,7 +5,7 @@ use Rattle.priml_syntax.specs.declared.prio.Prio.TheVariants.{Const, Var}
 use Rattle.priml_syntax.specs.Tree as tree
 use Rattle.priml_syntax.specs.Tree.{Tree, Code, Routine}
 use Rattle.source_grammar.specs.declared.raw.Name.{Name}
-use Rattle.source_grammar.specs.RawTree.{RawType, int, pair, thread, WrittenType, var, number, block, RawBody, bind, give, split, ret, spawn, sync, call, Parameter, Declaration, priority, order, procedure, RawTree}
+use Rattle.source_grammar.specs.RawTree.{RawType, int, pair, thread, WrittenType, var, number, block, RawBody, bind, ret_tail, case_tail, ret, spawn, sync, call, Parameter, Declaration, priority, order, procedure, RawTree}
 use Rattle.source_reader.specs.declared.faults.Fault.{Fault}
 use Rattle.source_reader.specs.declared.faults.Fault.TheVariants.{UnknownName, TwiceNamed, TooMany}
 use Rattle.source_reader.specs.declared.faults.What.TheVariants.{Priorities, PrioVars, Constraints, Parameters, Scope, TypeNodes}
@@ -33,7 +33,7 @@ abbrev proc : List Name → List (Name × Name) → List Parameter → Name → 
 proc vars given params own body = procedure (record { name = name 500 50; vars = vars; given = given; params = params; routine = record { at = 501; own = own; result = written 502 int; body = block 503 body } })
 
 abbrev number_one : RawBody
-number_one = give 600 (number 601 1)
+number_one = ret_tail 600 (number 601 1)
 
 abbrev body_in : Tree → List Code
 body_in p = map (λ (f : Routine). f.body) p.mains
@@ -42,7 +42,7 @@ body_in p = map (λ (f : Routine). f.body) p.mains
 abbrev spawning : RawTree
 spawning =
     program (priority (name 9 0) ∷ priority (name 22 1) ∷ order 26 (name 32 0) (name 37 1) ∷ [])
-    (bind (name 60 2) 65 (spawn (name 71 1) (block 75 (give 77 (number 81 5)))) (bind (name 86 3) 91 (sync (name 96 2)) (give 99 (var 103 3))))
+    (bind (name 60 2) 65 (spawn (name 71 1) (block 75 (ret_tail 77 (number 81 5)))) (bind (name 86 3) 91 (sync (name 96 2)) (ret_tail 99 (var 103 3))))
 
 no_fault : faults spawning ≡ []
 no_fault = refl
@@ -58,7 +58,7 @@ spawning_meant = record {
   mains = record {
     at = 1000;
     declares = record { vars = 0; given = []; params = []; own = Const 0; gives = tree.int };
-    body = tree.block 1016 (tree.bind 65 (tree.spawn (Const 1) (tree.block 75 (tree.give 77 (tree.number 81 (pos 5))))) (tree.bind 91 (tree.sync 0) (tree.give 99 (tree.var 103 1))));
+    body = tree.block 1016 (tree.bind 65 (tree.spawn (Const 1) (tree.block 75 (tree.ret_tail 77 (tree.number 81 (pos 5))))) (tree.bind 91 (tree.sync 0) (tree.ret_tail 99 (tree.var 103 1))));
   } ∷ [];
 }
 
@@ -66,16 +66,16 @@ meant : resolved spelled spawning ≡ spawning_meant
 meant = refl
 
 -- `{ x <- ret 1; x <- ret x; ret x }`: the action of the second x sees the first, the ending sees the second
-hidden : body_in (resolved [] (program one (bind (name 1 5) 2 (ret (number 3 1)) (bind (name 4 5) 5 (ret (var 6 5)) (give 7 (var 8 5)))))) ≡
-    tree.block 1016 (tree.bind 2 (tree.ret (tree.number 3 (pos 1))) (tree.bind 5 (tree.ret (tree.var 6 0)) (tree.give 7 (tree.var 8 1)))) ∷ []
+hidden : body_in (resolved [] (program one (bind (name 1 5) 2 (ret (number 3 1)) (bind (name 4 5) 5 (ret (var 6 5)) (ret_tail 7 (var 8 5)))))) ≡
+    tree.block 1016 (tree.bind 2 (tree.ret (tree.number 3 (pos 1))) (tree.bind 5 (tree.ret (tree.var 6 0)) (tree.ret_tail 7 (tree.var 8 1)))) ∷ []
 hidden = refl
 
 -- `{ h <- spawn[p] { y <- ret 1; ret y }; ret y }`
-out_of_scope : faults (program one (bind (name 1 5) 2 (spawn (name 3 0) (block 4 (bind (name 5 6) 6 (ret (number 7 1)) (give 8 (var 9 6))))) (give 10 (var 11 6)))) ≡ UnknownName 11 ∷ []
+out_of_scope : faults (program one (bind (name 1 5) 2 (spawn (name 3 0) (block 4 (bind (name 5 6) 6 (ret (number 7 1)) (ret_tail 8 (var 9 6))))) (ret_tail 10 (var 11 6)))) ≡ UnknownName 11 ∷ []
 out_of_scope = refl
 
 -- `case x inl a { ret a } inr b { ret a }`: the variable of one branch is unknown in the other
-branches : faults (program one (bind (name 1 5) 2 (ret (number 3 1)) (split 4 (var 5 5) (name 6 6) (block 7 (give 8 (var 9 6))) (name 10 7) (block 11 (give 12 (var 13 6)))))) ≡ UnknownName 13 ∷ []
+branches : faults (program one (bind (name 1 5) 2 (ret (number 3 1)) (case_tail 4 (var 5 5) (name 6 6) (block 7 (ret_tail 8 (var 9 6))) (name 10 7) (block 11 (ret_tail 12 (var 13 6)))))) ≡ UnknownName 13 ∷ []
 branches = refl
 
 -- a priority is declared wherever its declaration stands, also behind its use
@@ -83,7 +83,7 @@ behind : faults (program (order 1 (name 2 0) (name 3 4) ∷ priority (name 4 4) 
 behind = refl
 
 -- a variable is no priority, and a priority no variable
-other_kind : faults (program one (bind (name 1 5) 2 (ret (var 3 0)) (bind (name 4 6) 5 (spawn (name 6 5) (block 7 (give 8 (number 9 1)))) (give 10 (number 11 1))))) ≡ UnknownName 3 ∷ UnknownName 6 ∷ []
+other_kind : faults (program one (bind (name 1 5) 2 (ret (var 3 0)) (bind (name 4 6) 5 (spawn (name 6 5) (block 7 (ret_tail 8 (number 9 1)))) (ret_tail 10 (number 11 1))))) ≡ UnknownName 3 ∷ UnknownName 6 ∷ []
 other_kind = refl
 
 -- `priority p; priority p;`, and an order of two unknown names
@@ -95,7 +95,7 @@ twice = refl
 abbrev calling : RawTree
 calling =
     program (priority (name 9 0) ∷ proc (name 10 1 ∷ name 11 0 ∷ []) ((name 12 0, name 13 1) ∷ []) (param 14 2 ∷ []) (name 15 0)
-    (bind (name 16 3) 17 (call (name 18 50) (name 19 0 ∷ name 20 1 ∷ []) (var 21 2 ∷ [])) (give 22 (var 23 3))) ∷ []) number_one
+    (bind (name 16 3) 17 (call (name 18 50) (name 19 0 ∷ name 20 1 ∷ []) (var 21 2 ∷ [])) (ret_tail 22 (var 23 3))) ∷ []) number_one
 
 calling_clean : faults calling ≡ []
 calling_clean = refl
@@ -106,7 +106,7 @@ procs_in p = p.procs
 calling_meant : procs_in (resolved [] calling) ≡ record {
   at = 501;
   declares = record { vars = 2; given = (Var 1, Var 0) ∷ []; params = tree.int ∷ []; own = Var 1; gives = tree.int };
-  body = tree.block 503 (tree.bind 17 (tree.call 0 (Var 1 ∷ Var 0 ∷ []) (tree.var 21 0 ∷ [])) (tree.give 22 (tree.var 23 1)));
+  body = tree.block 503 (tree.bind 17 (tree.call 0 (Var 1 ∷ Var 0 ∷ []) (tree.var 21 0 ∷ [])) (tree.ret_tail 22 (tree.var 23 1)));
 } ∷ []
 calling_meant = refl
 

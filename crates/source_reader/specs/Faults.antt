@@ -1,7 +1,7 @@
 -- The faults of a program's names and limits, in the order of its text. Where two stand at one place, the one that counts is the first.
 use Rattle.std.specs.Prelude.{ℕ, ◌+◌, Bool, true, false, not, is_some, nat_lt, nat_le, List, [], ◌∷◌, ◌++◌, length}
 use Rattle.source_grammar.specs.declared.raw.Name.{Name}
-use Rattle.source_grammar.specs.RawTree.{RawType, unit, bool, int, pair, sum, thread, WrittenType, RawTerm, var, number, truth, nothing, both, first, second, left, right, binary, negated, RawCode, block, RawBody, bind, give, branch, split, RawAct, ret, spawn, sync, call, run, input, output, Parameter, RawProcedure, Declaration, priority, order, procedure, RawRoutine, RawTree}
+use Rattle.source_grammar.specs.RawTree.{RawType, unit, bool, int, pair, sum, thread, WrittenType, RawTerm, var, number, bool_term, unit_term, pair_term, first, second, left, right, binary, negated, RawCode, block, RawBody, bind, ret_tail, if_tail, case_tail, RawAct, ret, spawn, sync, call, do_block, input, output, Parameter, RawProcedure, Declaration, priority, order, procedure, RawRoutine, RawTree}
 use Rattle.source_reader.specs.declared.faults.What.{What}
 use Rattle.source_reader.specs.declared.faults.What.TheVariants.{Priorities, Pairs, Procedures, PrioVars, Constraints, Parameters, Scope, TypeNodes}
 use Rattle.source_reader.specs.declared.faults.Fault.{Fault}
@@ -62,9 +62,9 @@ written_faults env w = unless (nat_le (raw_nodes w.ty) 16) (TooMany w.at TypeNod
 abbrev pub term_faults : Env → RawTerm → List ℕ → List Fault
 term_faults env (var at id) scope = var_faults at id scope
 term_faults env (number at n) scope = []
-term_faults env (truth at b) scope = []
-term_faults env (nothing at) scope = []
-term_faults env (both at a b) scope = term_faults env a scope ++ term_faults env b scope
+term_faults env (bool_term at b) scope = []
+term_faults env (unit_term at) scope = []
+term_faults env (pair_term at a b) scope = term_faults env a scope ++ term_faults env b scope
 term_faults env (first at a) scope = term_faults env a scope
 term_faults env (second at a) scope = term_faults env a scope
 term_faults env (left at w a) scope = written_faults env w ++ term_faults env a scope
@@ -88,9 +88,9 @@ abbrev mutual
   -- a bound name is in scope from the next action on, and the variable of a branch in it
   pub body_faults : RawBody → Env → List ℕ → List Fault
   body_faults (bind n at a rest) env scope = scope_faults n scope ++ (act_faults a env scope ++ body_faults rest env (scope ++ n.id ∷ []))
-  body_faults (give at e) env scope = term_faults env e scope
-  body_faults (branch at e a b) env scope = term_faults env e scope ++ (code_faults a env scope ++ code_faults b env scope)
-  body_faults (split at e m a n b) env scope =
+  body_faults (ret_tail at e) env scope = term_faults env e scope
+  body_faults (if_tail at e a b) env scope = term_faults env e scope ++ (code_faults a env scope ++ code_faults b env scope)
+  body_faults (case_tail at e m a n b) env scope =
       term_faults env e scope
       ++ ((scope_faults m scope ++ code_faults a env (scope ++ m.id ∷ [])) ++ (scope_faults n scope ++ code_faults b env (scope ++ n.id ∷ [])))
 
@@ -100,7 +100,7 @@ abbrev mutual
   act_faults (spawn p b) env scope = prio_faults env p ++ code_faults b env scope
   act_faults (sync h) env scope = var_faults h.at h.id scope
   act_faults (call f ps es) env scope = proc_faults env f ++ (prios_faults env ps ++ terms_faults env es scope)
-  act_faults (run b) env scope = code_faults b env scope
+  act_faults (do_block b) env scope = code_faults b env scope
   act_faults input env scope = []
   act_faults (output e) env scope = term_faults env e scope
 

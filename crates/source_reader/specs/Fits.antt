@@ -1,13 +1,13 @@
 -- Trees whose numbers and names are those of tokens: a number is below two to the 63, and a name is one of the text's.
 use Rattle.std.specs.Prelude.{ℕ, ◌<◌, ◌^◌, List, [], ◌∷◌}
-use Rattle.source_grammar.specs.RawTree.{RawTerm, var, number, truth, nothing, both, first, second, left, right, binary, negated, RawCode, block, RawBody, bind, give, branch, split, RawAct, ret, spawn, sync, call, run, input, output, Declaration, priority, order, procedure, RawTree}
+use Rattle.source_grammar.specs.RawTree.{RawTerm, var, number, bool_term, unit_term, pair_term, first, second, left, right, binary, negated, RawCode, block, RawBody, bind, ret_tail, if_tail, case_tail, RawAct, ret, spawn, sync, call, do_block, input, output, Declaration, priority, order, procedure, RawTree}
 
 abbrev pub TermFits : RawTerm → Type 0
 TermFits (var at id) = Unit {0}
 TermFits (number at n) = n < 2 ^ 63
-TermFits (truth at b) = Unit {0}
-TermFits (nothing at) = Unit {0}
-TermFits (both at a b) = TermFits a × TermFits b
+TermFits (bool_term at b) = Unit {0}
+TermFits (unit_term at) = Unit {0}
+TermFits (pair_term at a b) = TermFits a × TermFits b
 TermFits (first at a) = TermFits a
 TermFits (second at a) = TermFits a
 TermFits (left at w a) = TermFits a
@@ -25,16 +25,16 @@ abbrev mutual
 
   pub BodyFits : RawBody → Type 0
   BodyFits (bind n at a rest) = ActFits a × BodyFits rest
-  BodyFits (give at e) = TermFits e
-  BodyFits (branch at e a b) = TermFits e × CodeFits a × CodeFits b
-  BodyFits (split at e m a n b) = TermFits e × CodeFits a × CodeFits b
+  BodyFits (ret_tail at e) = TermFits e
+  BodyFits (if_tail at e a b) = TermFits e × CodeFits a × CodeFits b
+  BodyFits (case_tail at e m a n b) = TermFits e × CodeFits a × CodeFits b
 
   pub ActFits : RawAct → Type 0
   ActFits (ret e) = TermFits e
   ActFits (spawn p b) = CodeFits b
   ActFits (sync h) = Unit {0}
   ActFits (call f ps es) = TermsFit es
-  ActFits (run b) = CodeFits b
+  ActFits (do_block b) = CodeFits b
   ActFits input = Unit {0}
   ActFits (output e) = TermFits e
 

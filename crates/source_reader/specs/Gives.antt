@@ -10,9 +10,9 @@ First faults (stop.Fault f) = (rest : List Fault) × (faults ≡ f ∷ rest)
 First faults stop.OutOfMemory = Unit {0}
 
 -- the result reads as `made`, and there are no faults; or it is the first of them
-abbrev pub Gives : {A B : Type 0} → List Fault → B → (A → B) → Result A ResolveStop → Type 0
-Gives faults made read (Ok x) = (faults ≡ []) × (read x ≡ made)
-Gives faults made read (Err e) = First faults e
+abbrev pub IsMade : {A B : Type 0} → List Fault → B → (A → B) → Result A ResolveStop → Type 0
+IsMade faults made read (Ok x) = (faults ≡ []) × (read x ≡ made)
+IsMade faults made read (Err e) = First faults e
 
 -- there are no faults; or the result is the first of them
 abbrev pub Finds : {A : Type 0} → List Fault → Result A ResolveStop → Type 0

@@ -21,14 +21,14 @@ abbrev pub Before : Fault → Fault → Type 0
 Before f g = (place f < place g) ⊎ ((place f ≡ place g) × (kind f < kind g))
 
 -- the fault is before each of these
-abbrev pub Leads : Fault → List Fault → Type 0
-Leads f [] = Unit {0}
-Leads f (g ∷ gs) = Before f g × Leads f gs
+abbrev pub IsBeforeAll : Fault → List Fault → Type 0
+IsBeforeAll f [] = Unit {0}
+IsBeforeAll f (g ∷ gs) = Before f g × IsBeforeAll f gs
 
 -- each fault is before those behind it
 abbrev pub Ascends : List Fault → Type 0
 Ascends [] = Unit {0}
-Ascends (f ∷ fs) = Leads f fs × Ascends fs
+Ascends (f ∷ fs) = IsBeforeAll f fs × Ascends fs
 
 -- each fault stands at this place or behind it, and before that one
 abbrev pub Between : ℕ → ℕ → List Fault → Type 0

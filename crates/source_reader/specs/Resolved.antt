@@ -4,7 +4,7 @@ use Rattle.priml_syntax.specs.declared.prio.Prio.{Prio}
 use Rattle.priml_syntax.specs.Tree as tree
 use Rattle.priml_syntax.specs.Tree.{Type', Term, Code, Body, Act, Constraint, Signature, Routine, Declared, Tree}
 use Rattle.source_grammar.specs.declared.raw.Name.{Name}
-use Rattle.source_grammar.specs.RawTree.{RawType, unit, bool, int, pair, sum, thread, RawTerm, var, number, truth, nothing, both, first, second, left, right, binary, negated, RawCode, block, RawBody, bind, give, branch, split, RawAct, ret, spawn, sync, call, run, input, output, Parameter, RawProcedure, Declaration, priority, order, procedure, RawRoutine, RawTree}
+use Rattle.source_grammar.specs.RawTree.{RawType, unit, bool, int, pair, sum, thread, RawTerm, var, number, bool_term, unit_term, pair_term, first, second, left, right, binary, negated, RawCode, block, RawBody, bind, ret_tail, if_tail, case_tail, RawAct, ret, spawn, sync, call, do_block, input, output, Parameter, RawProcedure, Declaration, priority, order, procedure, RawRoutine, RawTree}
 use Rattle.source_reader.specs.Names.{number_of, place_of, priorities, param_ids, Env, prio_of, env_of, with_vars}
 
 abbrev pub type_meant : Env → RawType → Type'
@@ -19,9 +19,9 @@ type_meant env (thread p a) = tree.thread (prio_of env p.id) (type_meant env a)
 abbrev pub term_meant : Env → RawTerm → List ℕ → Term
 term_meant env (var at id) scope = tree.var at (place_of id scope)
 term_meant env (number at n) scope = tree.number at (pos n)
-term_meant env (truth at b) scope = tree.truth at b
-term_meant env (nothing at) scope = tree.nothing at
-term_meant env (both at a b) scope = tree.both at (term_meant env a scope) (term_meant env b scope)
+term_meant env (bool_term at b) scope = tree.bool_term at b
+term_meant env (unit_term at) scope = tree.unit_term at
+term_meant env (pair_term at a b) scope = tree.pair_term at (term_meant env a scope) (term_meant env b scope)
 term_meant env (first at a) scope = tree.first at (term_meant env a scope)
 term_meant env (second at a) scope = tree.second at (term_meant env a scope)
 term_meant env (left at w a) scope = tree.left at (type_meant env w.ty) (term_meant env a scope)
@@ -42,17 +42,17 @@ abbrev mutual
 
   pub body_meant : RawBody → Env → List ℕ → Body
   body_meant (bind n at a rest) env scope = tree.bind at (act_meant a env scope) (body_meant rest env (scope ++ n.id ∷ []))
-  body_meant (give at e) env scope = tree.give at (term_meant env e scope)
-  body_meant (branch at e a b) env scope = tree.branch at (term_meant env e scope) (code_meant a env scope) (code_meant b env scope)
-  body_meant (split at e m a n b) env scope =
-      tree.split at (term_meant env e scope) (code_meant a env (scope ++ m.id ∷ [])) (code_meant b env (scope ++ n.id ∷ []))
+  body_meant (ret_tail at e) env scope = tree.ret_tail at (term_meant env e scope)
+  body_meant (if_tail at e a b) env scope = tree.if_tail at (term_meant env e scope) (code_meant a env scope) (code_meant b env scope)
+  body_meant (case_tail at e m a n b) env scope =
+      tree.case_tail at (term_meant env e scope) (code_meant a env (scope ++ m.id ∷ [])) (code_meant b env (scope ++ n.id ∷ []))
 
   pub act_meant : RawAct → Env → List ℕ → Act
   act_meant (ret e) env scope = tree.ret (term_meant env e scope)
   act_meant (spawn p b) env scope = tree.spawn (prio_of env p.id) (code_meant b env scope)
   act_meant (sync h) env scope = tree.sync (place_of h.id scope)
   act_meant (call f ps es) env scope = tree.call (number_of (env.procs f.id)) (prios_meant env ps) (terms_meant env es scope)
-  act_meant (run b) env scope = tree.run (code_meant b env scope)
+  act_meant (do_block b) env scope = tree.do_block (code_meant b env scope)
   act_meant input env scope = tree.input
   act_meant (output e) env scope = tree.output (term_meant env e scope)
 

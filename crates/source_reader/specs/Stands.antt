@@ -13,7 +13,7 @@ use Rattle.source_reader.specs.declared.faults.Fault.TheVariants as fault
 use Rattle.source_reader.specs.declared.reader.SourceFault.{SourceFault}
 use Rattle.source_reader.specs.declared.reader.SourceFault.TheVariants.{BadByte, BadNumber, Unexpected, UnknownName, TwiceNamed, TooDeep, TooMany, OutOfMemory}
 use Rattle.source_reader.specs.Faults.{faults}
-use Rattle.source_reader.specs.Order.{Leads}
+use Rattle.source_reader.specs.Order.{IsBeforeAll}
 use Rattle.source_reader.specs.Resolved.{resolved}
 
 -- the text stands for the program: its tokens are those of a program as it is written, each name resolves, no limit is passed, and the
@@ -38,7 +38,7 @@ pub record IsFirst (f : Fault) (fs : List Fault) : Type 0 where
   pub before : List Fault
   pub after : List Fault
   pub among : fs ≡ before ++ f ∷ after
-  pub leads : Leads f (before ++ after)
+  pub leads : IsBeforeAll f (before ++ after)
 
 -- The fault of a text that stands for no program. What its tokens say comes first, and of that the earliest place. Only where the tokens are those of a
 -- program, its names and limits are looked at.
@@ -63,6 +63,6 @@ pub data IsFaultOf (text : List ℕ) : SourceFault → Type 0 where
       → IsFirst f (faults raw) → IsFaultOf text (as_source f)
 
 -- what a refusal says: the text stands for no program and this is its fault, but where memory was wanting
-abbrev pub Refuses : List ℕ → SourceFault → Type 0
-Refuses text OutOfMemory = Unit {0}
-Refuses text f = IsFaultOf text f × ((p : Tree) → Stands text p → ⊥)
+abbrev pub IsRefused : List ℕ → SourceFault → Type 0
+IsRefused text OutOfMemory = Unit {0}
+IsRefused text f = IsFaultOf text f × ((p : Tree) → Stands text p → ⊥)

@@ -9,7 +9,7 @@ ghost use Rattle.source_reader.specs.Names.{number_of};
 ghost use Rattle.source_reader.specs.Faults.{proc_faults, prios_faults, terms_faults, scope_faults, code_faults, body_faults, act_faults};
 ghost use Rattle.source_reader.specs.Resolved.{prios_meant, terms_meant, code_meant, body_meant, act_meant};
 ghost use Rattle.source_reader.specs.Fits.{TermsFit, CodeFits, BodyFits, ActFits};
-ghost use Rattle.source_reader.specs.Gives.{Gives};
+ghost use Rattle.source_reader.specs.Gives.{IsMade};
 ghost use Rattle.source_reader.specs.Known.{env_in};
 
 use crate::faults::{Fault, ResolveStop, What};
@@ -33,7 +33,7 @@ pub fn block_of(
 ) -> Result<Block, ResolveStop>
     requires room { length scope.old.items ≤ 32 }
     requires fits { CodeFits (read_block raw.now) }
-    ensures gives { Gives (code_faults (read_block raw.now) (env_in names.now) scope.old.items) (code_meant (read_block raw.now) (env_in names.now) scope.old.items) read_code result }
+    ensures gives { IsMade (code_faults (read_block raw.now) (env_in names.now) scope.old.items) (code_meant (read_block raw.now) (env_in names.now) scope.old.items) read_code result }
     ensures scope { OnOk result (scope.new.items ≡ scope.old.items) }
 {
     let outer = scope.len();
@@ -63,7 +63,7 @@ fn bound(
 ) -> Result<Action, ResolveStop>
     requires room { length scope.old.items ≤ 32 }
     requires fits { ActFits (read_action raw.now.action) }
-    ensures gives { Gives (scope_faults raw.now.name scope.old.items ++ act_faults (read_action raw.now.action) (env_in names.now) scope.old.items) (act_meant (read_action raw.now.action) (env_in names.now) scope.old.items) read_act result }
+    ensures gives { IsMade (scope_faults raw.now.name scope.old.items ++ act_faults (read_action raw.now.action) (env_in names.now) scope.old.items) (act_meant (read_action raw.now.action) (env_in names.now) scope.old.items) read_act result }
     ensures scope { OnOk result (scope.new.items ≡ scope.old.items ++ raw.now.name.id ∷ []) }
     ensures room { OnOk result (length scope.new.items ≤ 32) }
 {
@@ -86,7 +86,7 @@ fn action_of(
 ) -> Result<Action, ResolveStop>
     requires room { length scope.old.items ≤ 32 }
     requires fits { ActFits (read_action raw.now) }
-    ensures gives { Gives (act_faults (read_action raw.now) (env_in names.now) scope.old.items) (act_meant (read_action raw.now) (env_in names.now) scope.old.items) read_act result }
+    ensures gives { IsMade (act_faults (read_action raw.now) (env_in names.now) scope.old.items) (act_meant (read_action raw.now) (env_in names.now) scope.old.items) read_act result }
     ensures scope { OnOk result (scope.new.items ≡ scope.old.items) }
 {
     match raw {
@@ -121,7 +121,7 @@ fn ending(
 ) -> Result<Tail, ResolveStop>
     requires room { length scope.old.items ≤ 32 }
     requires fits { BodyFits (read_raw_tail raw.now.form raw.now.at) }
-    ensures gives { Gives (body_faults (read_raw_tail raw.now.form raw.now.at) (env_in names.now) scope.old.items) (body_meant (read_raw_tail raw.now.form raw.now.at) (env_in names.now) scope.old.items) (λ t. read_tail t.form t.at) result }
+    ensures gives { IsMade (body_faults (read_raw_tail raw.now.form raw.now.at) (env_in names.now) scope.old.items) (body_meant (read_raw_tail raw.now.form raw.now.at) (env_in names.now) scope.old.items) (λ t. read_tail t.form t.at) result }
     ensures scope { OnOk result (scope.new.items ≡ scope.old.items) }
 {
     let form = form_of(alloc, names, scope, raw.at, &raw.form)?;
@@ -139,7 +139,7 @@ fn form_of(
 ) -> Result<TailForm, ResolveStop>
     requires room { length scope.old.items ≤ 32 }
     requires fits { BodyFits (read_raw_tail raw.now at) }
-    ensures gives { Gives (body_faults (read_raw_tail raw.now at) (env_in names.now) scope.old.items) (body_meant (read_raw_tail raw.now at) (env_in names.now) scope.old.items) (λ f. read_tail f at) result }
+    ensures gives { IsMade (body_faults (read_raw_tail raw.now at) (env_in names.now) scope.old.items) (body_meant (read_raw_tail raw.now at) (env_in names.now) scope.old.items) (λ f. read_tail f at) result }
     ensures scope { OnOk result (scope.new.items ≡ scope.old.items) }
 {
     match raw {
@@ -170,7 +170,7 @@ fn branch(
 ) -> Result<Box<Block>, ResolveStop>
     requires room { length scope.old.items ≤ 32 }
     requires fits { CodeFits (read_block raw.now) }
-    ensures gives { Gives (scope_faults inside.now scope.old.items ++ code_faults (read_block raw.now) (env_in names.now) (scope.old.items ++ inside.now.id ∷ [])) (code_meant (read_block raw.now) (env_in names.now) (scope.old.items ++ inside.now.id ∷ [])) (λ b. read_code b.value) result }
+    ensures gives { IsMade (scope_faults inside.now scope.old.items ++ code_faults (read_block raw.now) (env_in names.now) (scope.old.items ++ inside.now.id ∷ [])) (code_meant (read_block raw.now) (env_in names.now) (scope.old.items ++ inside.now.id ∷ [])) (λ b. read_code b.value) result }
     ensures scope { OnOk result (scope.new.items ≡ scope.old.items) }
 {
     let Name { at, id } = *inside;
@@ -193,7 +193,7 @@ fn boxed_block(
 ) -> Result<Box<Block>, ResolveStop>
     requires room { length scope.old.items ≤ 32 }
     requires fits { CodeFits (read_block raw.now) }
-    ensures gives { Gives (code_faults (read_block raw.now) (env_in names.now) scope.old.items) (code_meant (read_block raw.now) (env_in names.now) scope.old.items) (λ b. read_code b.value) result }
+    ensures gives { IsMade (code_faults (read_block raw.now) (env_in names.now) scope.old.items) (code_meant (read_block raw.now) (env_in names.now) scope.old.items) (λ b. read_code b.value) result }
     ensures scope { OnOk result (scope.new.items ≡ scope.old.items) }
 {
     let block = block_of(alloc, names, scope, raw)?;
@@ -211,7 +211,7 @@ fn call(
 ) -> Result<Action, ResolveStop>
     requires room { length scope.now ≤ 32 }
     requires fits { TermsFit (map read_expr arguments.now) }
-    ensures { Gives (proc_faults (env_in names.now) called.now ++ (prios_faults (env_in names.now) given.now ++ terms_faults (env_in names.now) (map read_expr arguments.now) scope.now)) (tree.call (number_of ((env_in names.now).procs called.now.id)) (prios_meant (env_in names.now) given.now) (terms_meant (env_in names.now) (map read_expr arguments.now) scope.now)) read_act result }
+    ensures { IsMade (proc_faults (env_in names.now) called.now ++ (prios_faults (env_in names.now) given.now ++ terms_faults (env_in names.now) (map read_expr arguments.now) scope.now)) (tree.call (number_of ((env_in names.now).procs called.now.id)) (prios_meant (env_in names.now) given.now) (terms_meant (env_in names.now) (map read_expr arguments.now) scope.now)) read_act result }
 {
     let number = procedure(names, called)?;
     let given = priorities(alloc, names, given)?;

@@ -8,7 +8,7 @@ ghost use Rattle.source_reader.specs.Names.{number_of, priorities, procedures, e
 ghost use Rattle.source_reader.specs.Faults.{room_faults, prio_faults, decls_faults, declared_faults};
 ghost use Rattle.source_reader.specs.Resolved.{pairs_meant, procs_meant};
 ghost use Rattle.source_reader.specs.Fits.{DeclsFit, BodiesFit};
-ghost use Rattle.source_reader.specs.Gives.{Gives, Finds, plain};
+ghost use Rattle.source_reader.specs.Gives.{IsMade, Finds, plain};
 ghost use Rattle.source_reader.specs.Known.{env_in};
 ghost use Rattle.source_reader.specs.Narrow.{narrowed};
 
@@ -146,7 +146,7 @@ fn pair(
 // The number of a declared priority, outside procedures.
 fn known(names: &Names, name: &Name) -> Result<u32, ResolveStop>
     requires none { names.now.vars.items ≡ [] }
-    ensures { Gives (prio_faults (env_in names.now) name.now) (number_of ((env_in names.now).prios name.now.id)) plain result }
+    ensures { IsMade (prio_faults (env_in names.now) name.now) (number_of ((env_in names.now).prios name.now.id)) plain result }
 {
     match names.priorities.get(name.id) {
         Some(number) => Ok(number),

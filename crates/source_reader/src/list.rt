@@ -6,7 +6,7 @@ ghost use Rattle.source_grammar.specs.RawRead.{read_expr};
 ghost use Rattle.source_reader.specs.Faults.{prios_faults, terms_faults};
 ghost use Rattle.source_reader.specs.Resolved.{prios_meant, terms_meant};
 ghost use Rattle.source_reader.specs.Fits.{TermsFit};
-ghost use Rattle.source_reader.specs.Gives.{Gives};
+ghost use Rattle.source_reader.specs.Gives.{IsMade};
 ghost use Rattle.source_reader.specs.Known.{env_in};
 
 use crate::faults::ResolveStop;
@@ -18,7 +18,7 @@ use std::alloc::Global;
 
 /// The priorities of these names, in order.
 pub fn priorities(alloc: Global, names: &Names, list: &[Name]) -> Result<Vec<Prio>, ResolveStop>
-    ensures { Gives (prios_faults (env_in names.now) list.now) (prios_meant (env_in names.now) list.now) (λ v. v.items) result }
+    ensures { IsMade (prios_faults (env_in names.now) list.now) (prios_meant (env_in names.now) list.now) (λ v. v.items) result }
 {
     let mut all = Vec::with_capacity(alloc, list.len())?;
     for name in list {
@@ -37,7 +37,7 @@ pub fn expressions(
 ) -> Result<Vec<Expr>, ResolveStop>
     requires room { length scope.now ≤ 32 }
     requires fits { TermsFit (map read_expr list.now) }
-    ensures { Gives (terms_faults (env_in names.now) (map read_expr list.now) scope.now) (terms_meant (env_in names.now) (map read_expr list.now) scope.now) (λ v. map read_term v.items) result }
+    ensures { IsMade (terms_faults (env_in names.now) (map read_expr list.now) scope.now) (terms_meant (env_in names.now) (map read_expr list.now) scope.now) (λ v. map read_term v.items) result }
 {
     let mut all = Vec::with_capacity(alloc, list.len())?;
     for raw in list {

@@ -8,7 +8,7 @@ ghost use Rattle.source_reader.specs.Names.{ids, param_ids};
 ghost use Rattle.source_reader.specs.Faults.{vars_faults, givens_faults, params_faults, procedure_faults, main_faults, given_faults, inside_faults};
 ghost use Rattle.source_reader.specs.Resolved.{given_meant, param_meant, proc_meant, main_meant, inside_meant};
 ghost use Rattle.source_reader.specs.Fits.{CodeFits};
-ghost use Rattle.source_reader.specs.Gives.{Gives, Finds};
+ghost use Rattle.source_reader.specs.Gives.{IsMade, Finds};
 ghost use Rattle.source_reader.specs.Known.{env_in};
 
 use crate::block::block_of;
@@ -30,7 +30,7 @@ const CONSTRAINTS: usize = 16;
 pub fn main_of(alloc: Global, names: &Names, raw: &RawMain) -> Result<Proc, ResolveStop>
     requires none { names.now.vars.items ≡ [] }
     requires fits { CodeFits (read_main raw.now).body }
-    ensures { Gives (main_faults (env_in names.now) (read_main raw.now)) (main_meant (env_in names.now) (read_main raw.now)) read_proc result }
+    ensures { IsMade (main_faults (env_in names.now) (read_main raw.now)) (main_meant (env_in names.now) (read_main raw.now)) read_proc result }
 {
     let own = priority(names, &raw.own)?;
     let result = written(alloc, names, &raw.result)?;
@@ -51,7 +51,7 @@ pub fn main_of(alloc: Global, names: &Names, raw: &RawMain) -> Result<Proc, Reso
 pub fn procedure_of(alloc: Global, names: &mut Names, raw: &RawProc) -> Result<Proc, ResolveStop>
     requires none { names.old.vars.items ≡ [] }
     requires fits { CodeFits (read_raw_proc raw.now).routine.body }
-    ensures gives { Gives (procedure_faults (env_in names.old) (read_raw_proc raw.now)) (proc_meant (env_in names.old) (read_raw_proc raw.now)) read_proc result }
+    ensures gives { IsMade (procedure_faults (env_in names.old) (read_raw_proc raw.now)) (proc_meant (env_in names.old) (read_raw_proc raw.now)) read_proc result }
     ensures names { OnOk result (env_in names.new ≡ env_in names.old) }
 {
     names.vars = variables(alloc, &raw.vars)?;
@@ -64,7 +64,7 @@ pub fn procedure_of(alloc: Global, names: &mut Names, raw: &RawProc) -> Result<P
 fn inside(alloc: Global, names: &Names, raw: &RawProc) -> Result<Proc, ResolveStop>
     requires vars { names.now.vars.items ≡ ids raw.now.vars.items }
     requires fits { CodeFits (read_raw_proc raw.now).routine.body }
-    ensures { Gives (inside_faults (env_in names.now) (read_raw_proc raw.now)) (inside_meant (env_in names.now) (read_raw_proc raw.now)) read_proc result }
+    ensures { IsMade (inside_faults (env_in names.now) (read_raw_proc raw.now)) (inside_meant (env_in names.now) (read_raw_proc raw.now)) read_proc result }
 {
     let given = constraints(alloc, names, &raw.given)?;
     let params = parameters(alloc, names, &raw.params)?;
@@ -85,7 +85,7 @@ fn inside(alloc: Global, names: &Names, raw: &RawProc) -> Result<Proc, ResolveSt
 
 // The names of priority variables, each of which is declared once.
 fn variables(alloc: Global, list: &[Name]) -> Result<Vec<usize>, ResolveStop>
-    ensures gives { Gives (vars_faults list.now []) (ids list.now) (λ v. v.items) result }
+    ensures gives { IsMade (vars_faults list.now []) (ids list.now) (λ v. v.items) result }
     ensures few { IfOk result (λ v. length v.items ≤ 8) }
 {
     let mut vars = Vec::new(alloc);
@@ -101,7 +101,7 @@ fn constraints(
     names: &Names,
     list: &[(Name, Name)],
 ) -> Result<Vec<(Prio, Prio)>, ResolveStop>
-    ensures { Gives (givens_faults (env_in names.now) list.now 0) (map (given_meant (env_in names.now)) list.now) (λ v. v.items) result }
+    ensures { IsMade (givens_faults (env_in names.now) list.now 0) (map (given_meant (env_in names.now)) list.now) (λ v. v.items) result }
 {
     let mut all = Vec::new(alloc);
     for (low, high) in list {

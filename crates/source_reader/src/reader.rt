@@ -17,7 +17,7 @@ ghost use Rattle.source_grammar.specs.RawTree.{RawTree};
 ghost use Rattle.source_reader.specs.Faults.{faults};
 ghost use Rattle.source_reader.specs.Resolved.{resolved};
 ghost use Rattle.source_reader.specs.Fits.{Fits};
-ghost use Rattle.source_reader.specs.Stands.{Stands, IsFaultOf, Refuses, as_source};
+ghost use Rattle.source_reader.specs.Stands.{Stands, IsFaultOf, IsRefused, as_source};
 ghost use Rattle.source_reader.specs.Written.{IsWrittenAs, IsFirstOf, stop_fault};
 
 use crate::faults::{Fault, ResolveStop, What};
@@ -58,7 +58,7 @@ pub fn read_source(alloc: Global, text: &[u8]) -> Result<Program, SourceFault>
     ensures program { IfOk result (λ p. Stands text.now (read_program p)) }
     ensures scoped { IfOk result (λ p. IsScoped (read_program p)) }
     ensures only { IfOk result (λ p. (q : Tree) → Stands text.now q → q ≡ read_program p) }
-    ensures refused { IfErr result (Refuses text.now) }
+    ensures refused { IfErr result (IsRefused text.now) }
     ensures one { IfErr result (λ e. e ≢ SourceFault.OutOfMemory → (f : SourceFault) → IsFaultOf text.now f → f ≡ e) }
 {
     let (program, _tree) = read_source_with_tree(alloc, text)?;
@@ -71,7 +71,7 @@ pub fn read_source_leaving_tree(alloc: Global, text: &[u8]) -> Result<Program, S
     ensures program { IfOk result (λ p. Stands text.now (read_program p)) }
     ensures scoped { IfOk result (λ p. IsScoped (read_program p)) }
     ensures only { IfOk result (λ p. (q : Tree) → Stands text.now q → q ≡ read_program p) }
-    ensures refused { IfErr result (Refuses text.now) }
+    ensures refused { IfErr result (IsRefused text.now) }
     ensures one { IfErr result (λ e. e ≢ SourceFault.OutOfMemory → (f : SourceFault) → IsFaultOf text.now f → f ≡ e) }
 {
     let (program, tree) = read_source_with_tree(alloc, text)?;
@@ -84,7 +84,7 @@ fn read_source_with_tree(alloc: Global, text: &[u8]) -> Result<(Program, SourceT
     ensures program { IfOk result (λ r. Stands text.now (read_program r.0)) }
     ensures scoped { IfOk result (λ r. IsScoped (read_program r.0)) }
     ensures only { IfOk result (λ r. (q : Tree) → Stands text.now q → q ≡ read_program r.0) }
-    ensures refused { IfErr result (Refuses text.now) }
+    ensures refused { IfErr result (IsRefused text.now) }
     ensures one { IfErr result (λ e. e ≢ SourceFault.OutOfMemory → (f : SourceFault) → IsFaultOf text.now f → f ≡ e) }
 {
     let tree = written(alloc, text)?;
@@ -103,7 +103,7 @@ struct SourceTree {
 fn written(alloc: Global, text: &[u8]) -> Result<SourceTree, SourceFault>
     ensures written { IfOk result (λ w. IsWrittenAs text.now (name_bytes w.names) (read_raw w.raw)) }
     ensures only { IfOk result (λ w. (ns : List (List ℕ)) (q : RawTree) → IsWrittenAs text.now ns q → (ns ≡ name_bytes w.names) × (q ≡ read_raw w.raw)) }
-    ensures refused { IfErr result (Refuses text.now) }
+    ensures refused { IfErr result (IsRefused text.now) }
 {
     let Ok(lexed) = lex(alloc, text) else {
         return Err(SourceFault::OutOfMemory);
@@ -128,7 +128,7 @@ fn whole(
     ensures derived { IfOk result (λ raw. IsProgram (joined runs.now) (read_raw raw)) }
     ensures only { IfOk result (λ raw. (q : RawTree) → IsProgram (joined runs.now) q → q ≡ read_raw raw) }
     ensures done { IfOk result (λ raw. stop ≡ Stop.Done) }
-    ensures refused { IfErr result (λ e. (ns : List (List ℕ)) → IsLexed text.now (joined runs.now) ns stop → Refuses text.now e) }
+    ensures refused { IfErr result (λ e. (ns : List (List ℕ)) → IsLexed text.now (joined runs.now) ns stop → IsRefused text.now e) }
 {
     match parse(alloc, runs) {
         Ok(raw) => match fault_of(stop) {
@@ -143,7 +143,7 @@ fn whole(
 
 // The fault of a text whose tokens all begin a program and are none.
 fn cut_off(text: &[u8], stop: Stop) -> SourceFault
-    ensures { (ts : List Token) (ns : List (List ℕ)) (n : ℕ) → slice_get ts n ≡ None → IsUnexpected ts n → IsLexed text.now ts ns stop → Refuses text.now result }
+    ensures { (ts : List Token) (ns : List (List ℕ)) (n : ℕ) → slice_get ts n ≡ None → IsUnexpected ts n → IsLexed text.now ts ns stop → IsRefused text.now result }
 {
     match fault_of(stop) {
         Some(fault) => fault,

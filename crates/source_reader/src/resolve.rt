@@ -9,7 +9,7 @@ ghost use Rattle.source_tokens.specs.Names.{name_bytes};
 ghost use Rattle.source_reader.specs.Faults.{faults};
 ghost use Rattle.source_reader.specs.Resolved.{resolved};
 ghost use Rattle.source_reader.specs.Fits.{Fits};
-ghost use Rattle.source_reader.specs.Gives.{Gives};
+ghost use Rattle.source_reader.specs.Gives.{IsMade};
 
 use crate::declared::{declare_all, names_of};
 use crate::faults::ResolveStop;
@@ -27,7 +27,7 @@ pub fn resolve(
 ) -> Result<Program, ResolveStop>
     requires fits { Fits (index_set_len names.now) (read_raw raw.now) }
     requires ascii { All IsAscii (name_bytes names.now) }
-    ensures { Gives (faults (read_raw raw.now)) (resolved (name_bytes names.now) (read_raw raw.now)) read_program result }
+    ensures { IsMade (faults (read_raw raw.now)) (resolved (name_bytes names.now) (read_raw raw.now)) read_program result }
 {
     let mut known = names_of(alloc, names.len(), &raw.decls)?;
     let declared = declare_all(alloc, &mut known, &raw.decls)?;

@@ -8,7 +8,7 @@ ghost use Rattle.source_reader.specs.Names.{number_of, place_of, prio_of};
 ghost use Rattle.source_reader.specs.Faults.{raw_nodes, prio_faults, proc_faults, var_faults, type_faults, written_faults, term_faults};
 ghost use Rattle.source_reader.specs.Resolved.{type_meant, term_meant};
 ghost use Rattle.source_reader.specs.Fits.{TermFits};
-ghost use Rattle.source_reader.specs.Gives.{Gives, plain};
+ghost use Rattle.source_reader.specs.Gives.{IsMade, plain};
 ghost use Rattle.source_reader.specs.Known.{env_in};
 
 use crate::faults::{Fault, ResolveStop, What};
@@ -24,7 +24,7 @@ const NODES: u64 = 16;
 #[tactic(auto, using(crate::proofs::Lookup::lookup_within))]
 pub fn variable(scope: &[usize], at: u64, id: usize) -> Result<u32, ResolveStop>
     requires { length scope.now ≤ 32 }
-    ensures { Gives (var_faults at id scope.now) (place_of id scope.now) plain result }
+    ensures { IsMade (var_faults at id scope.now) (place_of id scope.now) plain result }
 {
     match find(scope, id) {
         Some(place) => Ok(place as u32),
@@ -35,7 +35,7 @@ pub fn variable(scope: &[usize], at: u64, id: usize) -> Result<u32, ResolveStop>
 /// The priority of this name: a variable of the procedure, or a declared one.
 #[tactic(auto, using(crate::proofs::Lookup::lookup_within))]
 pub fn priority(names: &Names, name: &Name) -> Result<Prio, ResolveStop>
-    ensures { Gives (prio_faults (env_in names.now) name.now) (prio_of (env_in names.now) name.now.id) plain result }
+    ensures { IsMade (prio_faults (env_in names.now) name.now) (prio_of (env_in names.now) name.now.id) plain result }
 {
     match find(&names.vars, name.id) {
         Some(variable) => Ok(Prio::Var(variable as u32)),
@@ -48,7 +48,7 @@ pub fn priority(names: &Names, name: &Name) -> Result<Prio, ResolveStop>
 
 /// The number of the procedure of this name.
 pub fn procedure(names: &Names, name: &Name) -> Result<u32, ResolveStop>
-    ensures { Gives (proc_faults (env_in names.now) name.now) (number_of ((env_in names.now).procs name.now.id)) plain result }
+    ensures { IsMade (proc_faults (env_in names.now) name.now) (number_of ((env_in names.now).procs name.now.id)) plain result }
 {
     match names.procedures.get(name.id) {
         Some(number) => Ok(number),
@@ -58,7 +58,7 @@ pub fn procedure(names: &Names, name: &Name) -> Result<u32, ResolveStop>
 
 /// The type as it is written, of at most 16 nodes.
 pub fn written(alloc: Global, names: &Names, raw: &Written) -> Result<Ty, ResolveStop>
-    ensures { Gives (written_faults (env_in names.now) (read_written raw.now)) (type_meant (env_in names.now) (read_ty raw.now.ty)) read_type result }
+    ensures { IsMade (written_faults (env_in names.now) (read_written raw.now)) (type_meant (env_in names.now) (read_ty raw.now.ty)) read_type result }
 {
     if nodes(&raw.ty) > NODES {
         return Err(ResolveStop::Fault(Fault::TooMany(raw.at, What::TypeNodes)));
@@ -80,7 +80,7 @@ fn nodes(raw: &RawTy) -> u64
 // The type, its priorities resolved.
 #[cycle(types)]
 fn type_of(alloc: Global, names: &Names, raw: &RawTy) -> Result<Ty, ResolveStop>
-    ensures { Gives (type_faults (env_in names.now) (read_ty raw.now)) (type_meant (env_in names.now) (read_ty raw.now)) read_type result }
+    ensures { IsMade (type_faults (env_in names.now) (read_ty raw.now)) (type_meant (env_in names.now) (read_ty raw.now)) read_type result }
 {
     match raw {
         RawTy::Unit => Ok(Ty::Unit),
@@ -106,7 +106,7 @@ fn type_of(alloc: Global, names: &Names, raw: &RawTy) -> Result<Ty, ResolveStop>
 
 #[cycle(types)]
 fn boxed_type(alloc: Global, names: &Names, raw: &RawTy) -> Result<Box<Ty>, ResolveStop>
-    ensures { Gives (type_faults (env_in names.now) (read_ty raw.now)) (type_meant (env_in names.now) (read_ty raw.now)) (λ t. read_type t.value) result }
+    ensures { IsMade (type_faults (env_in names.now) (read_ty raw.now)) (type_meant (env_in names.now) (read_ty raw.now)) (λ t. read_type t.value) result }
 {
     let ty = type_of(alloc, names, raw)?;
     Ok(boxed(alloc, ty)?)
@@ -122,7 +122,7 @@ pub fn expression(
 ) -> Result<Expr, ResolveStop>
     requires room { length scope.now ≤ 32 }
     requires fits { TermFits (read_expr raw.now) }
-    ensures { Gives (term_faults (env_in names.now) (read_expr raw.now) scope.now) (term_meant (env_in names.now) (read_expr raw.now) scope.now) read_term result }
+    ensures { IsMade (term_faults (env_in names.now) (read_expr raw.now) scope.now) (term_meant (env_in names.now) (read_expr raw.now) scope.now) read_term result }
 {
     let form = form_of(alloc, names, scope, raw.at, &raw.form)?;
     Ok(Expr { at: raw.at, form })
@@ -139,7 +139,7 @@ fn form_of(
 ) -> Result<ExprForm, ResolveStop>
     requires room { length scope.now ≤ 32 }
     requires fits { TermFits (read_raw_form raw.now at) }
-    ensures { Gives (term_faults (env_in names.now) (read_raw_form raw.now at) scope.now) (term_meant (env_in names.now) (read_raw_form raw.now at) scope.now) (λ f. read_form f at) result }
+    ensures { IsMade (term_faults (env_in names.now) (read_raw_form raw.now at) scope.now) (term_meant (env_in names.now) (read_raw_form raw.now at) scope.now) (λ f. read_form f at) result }
 {
     match raw {
         RawForm::Var(id) => Ok(ExprForm::Var(variable(scope, at, *id)?)),
@@ -181,7 +181,7 @@ fn boxed_term(
 ) -> Result<Box<Expr>, ResolveStop>
     requires room { length scope.now ≤ 32 }
     requires fits { TermFits (read_expr raw.now) }
-    ensures { Gives (term_faults (env_in names.now) (read_expr raw.now) scope.now) (term_meant (env_in names.now) (read_expr raw.now) scope.now) (λ e. read_term e.value) result }
+    ensures { IsMade (term_faults (env_in names.now) (read_expr raw.now) scope.now) (term_meant (env_in names.now) (read_expr raw.now) scope.now) (λ e. read_term e.value) result }
 {
     let e = expression(alloc, names, scope, raw)?;
     Ok(boxed(alloc, e)?)

@@ -12,8 +12,8 @@ abbrev pub tokens_of : Lexer → List Token
 tokens_of l = joined l.runs.items ++ l.run.items
 
 -- whatever the rest of the text is, with the tokens before it, is the text
-abbrev pub Leads : List ℕ → Lexer → Type 0
-Leads text l =
+abbrev pub Completes : List ℕ → Lexer → Type 0
+Completes text l =
     (ts : List Token) (ns : List (List ℕ)) (end : Stop) → Lexes l.total l.depth (name_bytes l.names) l.rest.now ts ns end
     → IsLexed text (tokens_of l ++ ts) ns end
 

@@ -12,10 +12,10 @@ use Rattle.cost_graph.specs.Graph.{CostGraph, vertex_total, Edge}
 use Rattle.cost_graph.specs.Order.{IsTopological}
 use Rattle.cost_graph.proofs.Above.{order_below, order_short}
 use Rattle.cost_graph.proofs.Members.{decides_eq, no_member, member_cons, member_head}
-use Rattle.span_bound.specs.Inside.Segments.{Follows, IsIn, IsCut, IsCutSoFar}
+use Rattle.span_bound.specs.Inside.Segments.{Follows, IsIn, AreSegmentsOf, AreSegmentsOfFirst}
 use Rattle.span_bound.proofs.Longest.{new_at}
 
-pub cut_start : (g : CostGraph) (order : List ℕ) (n : ℕ) → n ≡ vertex_total g → IsCutSoFar g order 0 [] [] (replicate n 0)
+pub cut_start : (g : CostGraph) (order : List ℕ) (n : ℕ) → n ≡ vertex_total g → AreSegmentsOfFirst g order 0 [] [] (replicate n 0)
 cut_start g order n e = record {
   long = refl;
   covers = length-replicate n 0 ∙ e;
@@ -31,7 +31,7 @@ cut_start g order n e = record {
     none : (s : ℕ) → s < 0 → ⊥
     none s lt = omega (arith, lt)
 
-module _ (g : CostGraph) (order heads lens slots : List ℕ) (k : ℕ) (topo : IsTopological g order) (lt : k < length order) (old : IsCutSoFar g order k heads lens slots) where
+module _ (g : CostGraph) (order heads lens slots : List ℕ) (k : ℕ) (topo : IsTopological g order) (lt : k < length order) (old : AreSegmentsOfFirst g order k heads lens slots) where
   abbrev v : ℕ
   v = get_or order k 0
 
@@ -112,7 +112,7 @@ module _ (g : CostGraph) (order heads lens slots : List ℕ) (k : ℕ) (topo : I
       | inr ne ↦ inl (i.0, omega (arith, i.1, len_old t ne))
     ]
 
-    pub extend_on : IsCutSoFar g order (k + 1) heads (set lens (get_or slots (get_or order k 0 - 1) 0) (get_or lens (get_or slots (get_or order k 0 - 1) 0) 0 + 1)) (set slots (get_or order k 0) (get_or slots (get_or order k 0 - 1) 0))
+    pub extend_on : AreSegmentsOfFirst g order (k + 1) heads (set lens (get_or slots (get_or order k 0 - 1) 0) (get_or lens (get_or slots (get_or order k 0 - 1) 0) 0 + 1)) (set slots (get_or order k 0) (get_or slots (get_or order k 0 - 1) 0))
     extend_on = record {
       long = length-set lens s (get_or lens s 0 + 1) ∙ old.long;
       covers = length-set slots v s ∙ old.covers;
@@ -175,7 +175,7 @@ module _ (g : CostGraph) (order heads lens slots : List ℕ) (k : ℕ) (topo : I
       let l = ap (λ x. get_or (lens ++ 1 ∷ []) x 0) e ∙ len_one in
       omega (arith, i.0, i.1, h, l)
 
-  pub begin_on : IsCutSoFar g order (k + 1) (heads ++ get_or order k 0 ∷ []) (lens ++ 1 ∷ []) (set slots (get_or order k 0) (length heads))
+  pub begin_on : AreSegmentsOfFirst g order (k + 1) (heads ++ get_or order k 0 ∷ []) (lens ++ 1 ∷ []) (set slots (get_or order k 0) (length heads))
   begin_on = record {
     long = length-append lens (1 ∷ []) ∙ ap (λ m. m + 1) old.long ∙ sym longer;
     covers = length-set slots v n ∙ old.covers;
@@ -217,7 +217,7 @@ whole g order topo =
     let least : vertex_total g ≤ length order = le-length_from_below order (vertex_total g) (λ q lt. (is_member-Decides decides_eq order q).1 ((topo.all q).0 lt)) in
     omega (arith, most, least)
 
-pub cut_end : (g : CostGraph) (order heads lens slots : List ℕ) (k : ℕ) → IsTopological g order → k ≡ length order → IsCutSoFar g order k heads lens slots → IsCut g heads lens slots
+pub cut_end : (g : CostGraph) (order heads lens slots : List ℕ) (k : ℕ) → IsTopological g order → k ≡ length order → AreSegmentsOfFirst g order k heads lens slots → AreSegmentsOf g heads lens slots
 cut_end g order heads lens slots k topo e now = record {
   long = now.long;
   covers = now.covers;

@@ -7,7 +7,7 @@ use Rattle.std.proofs.lemmas.List.Elements.{All-from_get_or}
 use Rattle.cost_graph.specs.Graph.{CostGraph, IsGraph, IsOwner, thread_total, first_vertex, last_vertex}
 use Rattle.cost_graph.proofs.Ends.{first_owner, last_below}
 use Rattle.cost_graph.proofs.Threads.{one_owner}
-use Rattle.span_bound.specs.Inside.Segments.{IsCut, last_of}
+use Rattle.span_bound.specs.Inside.Segments.{AreSegmentsOf, last_of}
 use Rattle.span_bound.proofs.Grouped.{first_below}
 use Rattle.span_bound.proofs.Kinship.{next_follows}
 
@@ -18,7 +18,7 @@ all_images P f threads n each h =
     (λ k lt. let k_in : k < length threads = let e = length-map threads f in omega (arith, lt, e) in
     subst P (sym (get_or-map f threads k 0 0 k_in)) (each (get_or threads k 0) (h k 0 k_in)))
 
-module _ (g : CostGraph) (heads lens slots : List ℕ) (ok : IsGraph g) (cut : IsCut g heads lens slots) where
+module _ (g : CostGraph) (heads lens slots : List ℕ) (ok : IsGraph g) (cut : AreSegmentsOf g heads lens slots) where
   pub first_is_head : (t : ℕ) → t < thread_total g → get_or heads (get_or slots (first_vertex g t) 0) 0 ≡ first_vertex g t
   first_is_head t lt =
       let f = first_vertex g t in

@@ -9,7 +9,7 @@ use Rattle.cost_graph.proofs.Above.{proper_first, first_proper, proper_last, las
 use Rattle.cost_graph.proofs.Members.{no_member, member_cons, member_head, member_tail}
 use Rattle.cost_graph.proofs.ReadyNext.{child_of, parent_of_child, edge_in}
 use Rattle.span_bound.specs.Words.{HasBit}
-use Rattle.span_bound.specs.Inside.Segments.{Follows, IsIn, IsCut, images, last_of}
+use Rattle.span_bound.specs.Inside.Segments.{Follows, IsIn, AreSegmentsOf, images, last_of}
 
 pub in_images : (slots vs : List ℕ) (v : ℕ) → Contains vs v → Contains (images slots vs) (get_or slots v 0)
 in_images slots [] v c = absurd (no_member v c)
@@ -25,7 +25,7 @@ of_images slots (x ∷ xs) m c = elim (member_cons (get_or slots x 0) (images sl
   | inr late ↦ let r = of_images slots xs m late in (r.0, member_tail x xs r.0 r.1, r.2)
 ]
 
-module _ (g : CostGraph) (heads lens slots : List ℕ) (ok : IsGraph g) (cut : IsCut g heads lens slots) where
+module _ (g : CostGraph) (heads lens slots : List ℕ) (ok : IsGraph g) (cut : AreSegmentsOf g heads lens slots) where
   pub slot_of_head : (s : ℕ) → s < length heads → get_or slots (get_or heads s 0) 0 ≡ s
   slot_of_head s lt = (cut.own s (get_or heads s 0) lt (omega arith, omega (arith, cut.filled s lt))).1
 

@@ -8,7 +8,7 @@ use Rattle.std.proofs.lemmas.List.{map-append, length-map, get_or-map, get_or_pu
 use Rattle.std.proofs.lemmas.List.Elements.{All-from_get_or, Contains-get_or}
 use Rattle.cost_graph.specs.Graph.{CostGraph, IsGraph, vertex_total, parents_at}
 use Rattle.cost_graph.specs.View.{lists}
-use Rattle.span_bound.specs.Inside.Segments.{IsCut, last_of}
+use Rattle.span_bound.specs.Inside.Segments.{AreSegmentsOf, last_of}
 
 pub listed_more : (F : ℕ → List ℕ) (xs : List (Vec ℕ Global)) (y : Vec ℕ Global) (n : ℕ) → length xs ≡ n → ((s : ℕ) → s < n → get_or (lists xs) s [] ≡ F s) → y.items ≡ F n
     → (s : ℕ) → s < n + 1 → get_or (lists (xs ++ y ∷ [])) s [] ≡ F s
@@ -21,13 +21,13 @@ listed_more F xs y n long old e s lt =
     ]
 
 -- a segment's first and last vertex are vertices
-pub head_below : (g : CostGraph) (heads lens slots : List ℕ) (s : ℕ) → IsCut g heads lens slots → s < length heads → get_or heads s 0 < vertex_total g
+pub head_below : (g : CostGraph) (heads lens slots : List ℕ) (s : ℕ) → AreSegmentsOf g heads lens slots → s < length heads → get_or heads s 0 < vertex_total g
 head_below g heads lens slots s cut lt = (cut.own s (get_or heads s 0) lt (omega arith, omega (arith, cut.filled s lt))).0
 
-pub last_below : (g : CostGraph) (heads lens slots : List ℕ) (s : ℕ) → IsCut g heads lens slots → s < length heads → last_of heads lens s < vertex_total g
+pub last_below : (g : CostGraph) (heads lens slots : List ℕ) (s : ℕ) → AreSegmentsOf g heads lens slots → s < length heads → last_of heads lens s < vertex_total g
 last_below g heads lens slots s cut lt = (cut.own s (last_of heads lens s) lt (omega (arith, cut.filled s lt), omega (arith, cut.filled s lt))).0
 
-pub heads_below : (g : CostGraph) (heads lens slots : List ℕ) → IsCut g heads lens slots → All (λ v. v < vertex_total g) heads
+pub heads_below : (g : CostGraph) (heads lens slots : List ℕ) → AreSegmentsOf g heads lens slots → All (λ v. v < vertex_total g) heads
 heads_below g heads lens slots cut = All-from_get_or (λ v. v < vertex_total g) heads 0 (λ k lt. head_below g heads lens slots k cut lt)
 
 pub parents_below : (g : CostGraph) (v : ℕ) → IsGraph g → All (λ u. u < vertex_total g) (parents_at g v)

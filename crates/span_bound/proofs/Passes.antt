@@ -8,14 +8,14 @@ use Rattle.std.proofs.lemmas.List.Elements.{All-from_get_or}
 use Rattle.cost_graph.specs.Walks.{HasNoCycle}
 use Rattle.cost_graph.specs.Graph.{CostGraph, Edge, IsGraph, IsProperAncestor, vertex_total, parents_at, children_at}
 use Rattle.span_bound.specs.Words.{AreMarkedForEach, HasBit}
-use Rattle.span_bound.specs.Inside.Segments.{IsIn, IsCut, images, last_of, spread}
+use Rattle.span_bound.specs.Inside.Segments.{IsIn, AreSegmentsOf, images, last_of, spread}
 use Rattle.span_bound.proofs.Kinship.{above_same, above_last, beneath_same, beneath_head}
 
 pub spread_at : (slots words : List ℕ) (v : ℕ) → v < length slots → get_or (spread slots words) v 0 ≡ get_or words (get_or slots v 0) 0
 spread_at slots words v lt = get_or-map (λ s. get_or words s 0) slots v 0 0 lt
 
 -- the slots of vertices are segments
-pub images_below : (g : CostGraph) (heads lens slots vs : List ℕ) → IsCut g heads lens slots → All (λ v. v < vertex_total g) vs → All (λ s. s < length heads) (images slots vs)
+pub images_below : (g : CostGraph) (heads lens slots vs : List ℕ) → AreSegmentsOf g heads lens slots → All (λ v. v < vertex_total g) vs → All (λ s. s < length heads) (images slots vs)
 images_below g heads lens slots vs cut h =
     All-from_get_or (λ s. s < length heads) (images slots vs) 0 (λ k lt.
     let k_in : k < length vs = let e = length-map vs (λ v. get_or slots v 0) in omega (arith, lt, e) in
@@ -44,7 +44,7 @@ pub record IsBeneathEach (g : CostGraph) (heads slots sources words : List ℕ) 
   pub size : length words ≡ length heads
   pub each : (i v : ℕ) → i < length sources → v < vertex_total g → get_or slots v 0 < place → (bit_at (get_or words (get_or slots v 0) 0) i ≡ 1) ↔ IsProperAncestor g (get_or sources i 0) v
 
-module _ (g : CostGraph) (heads lens slots : List ℕ) (ok : IsGraph g) (acyclic : HasNoCycle (Edge g)) (cut : IsCut g heads lens slots) where
+module _ (g : CostGraph) (heads lens slots : List ℕ) (ok : IsGraph g) (acyclic : HasNoCycle (Edge g)) (cut : AreSegmentsOf g heads lens slots) where
   module _ (targets own words : List ℕ) (place word : ℕ) (firsts : All (λ t. get_or heads (get_or slots t 0) 0 ≡ t) targets) (owns : Owns slots targets own)
       (now : IsAboveEach g heads slots targets words (suc place)) (said : (i : ℕ) → (bit_at word i ≡ 1) ↔ HasBit words own (images slots (children_at g (last_of heads lens place))) i) where
     here : get_or (set words place word) place 0 ≡ word

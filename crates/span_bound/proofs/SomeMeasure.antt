@@ -140,10 +140,10 @@ module _ (g : CostGraph) (order : List ℕ) (ok : IsGraph g) (topo : IsTopologic
     -- the span is the level of the last vertex
     pub some_span : (span : ℕ) × IsSpan g t span
     some_span =
-        let above = some_above (first_vertex g t) in
-        let all = levels_to above.0 (length order) (omega arith) in
+        let ancestor_marks = some_above (first_vertex g t) in
+        let all = levels_to ancestor_marks.0 (length order) (omega arith) in
         let at = subst (λ l. Contains l (last_vertex g t)) (sym (take-length order)) ((topo.all (last_vertex g t)).0 (last_below g t ok lt)) in
-        (get_or all.0 (last_vertex g t) 0, level_is_span g t above.0 ok lt acyclic above.1 (get_or all.0 (last_vertex g t) 0) (all.1.are (last_vertex g t) at))
+        (get_or all.0 (last_vertex g t) 0, level_is_span g t ancestor_marks.0 ok lt acyclic ancestor_marks.1 (get_or all.0 (last_vertex g t) 0) (all.1.are (last_vertex g t) at))
 
     marked_or_not : (P : ℕ → Type 0) (marks : List Bool) → AreMarked g P marks → (v : ℕ) → v < vertex_total g → P v ⊎ (P v → ⊥)
     marked_or_not P marks m v v_lt =
@@ -151,15 +151,15 @@ module _ (g : CostGraph) (order : List ℕ) (ok : IsGraph g) (topo : IsTopologic
 
     competes_or_not : (pairs : List (ℕ × ℕ)) (v : ℕ) → Competes g pairs t v ⊎ (Competes g pairs t v → ⊥)
     competes_or_not pairs v =
-        let above = some_above (first_vertex g t) in
-        let beneath = some_beneath (last_vertex g t) in
+        let ancestor_marks = some_above (first_vertex g t) in
+        let descendant_marks = some_beneath (last_vertex g t) in
         elim (cases_lt v (vertex_total g)) [
           | inr past ↦ inr (λ h. omega (arith, past, h.0))
           | inl v_lt ↦ elim (below_or_not pairs (vertex_priority g v) (thread_at g t).priority) [
             | inl below ↦ inr (λ h. h.1 below)
-            | inr high ↦ elim (marked_or_not (λ w. IsProperAncestor g w (first_vertex g t)) above.0 above.1 v v_lt) [
+            | inr high ↦ elim (marked_or_not (λ w. IsProperAncestor g w (first_vertex g t)) ancestor_marks.0 ancestor_marks.1 v v_lt) [
               | inl up ↦ inr (λ h. h.2 up)
-              | inr not_up ↦ elim (marked_or_not (IsProperAncestor g (last_vertex g t)) beneath.0 beneath.1 v v_lt) [
+              | inr not_up ↦ elim (marked_or_not (IsProperAncestor g (last_vertex g t)) descendant_marks.0 descendant_marks.1 v v_lt) [
                 | inl down ↦ inr (λ h. h.3 down)
                 | inr not_down ↦ inl (v_lt, high, not_up, not_down)
               ]

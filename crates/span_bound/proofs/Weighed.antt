@@ -12,11 +12,11 @@ use Rattle.cost_graph.proofs.Members.{distinct_join}
 use Rattle.cost_graph.proofs.Ranges.{in_range, distinct_range}
 use Rattle.cost_graph.proofs.Threads.{owner_priority}
 use Rattle.span_bound.specs.Work.{IsCount}
-use Rattle.span_bound.specs.Inside.Segments.{IsIn, IsCut, spread}
+use Rattle.span_bound.specs.Inside.Segments.{IsIn, AreSegmentsOf, spread}
 use Rattle.span_bound.proofs.Counts.{count_none, count_same}
 use Rattle.span_bound.proofs.Passes.{spread_at}
 
-priority_along : (g : CostGraph) (heads lens slots : List ℕ) (s d : ℕ) → IsCut g heads lens slots → s < length heads → d < get_or lens s 0 → vertex_priority g (get_or heads s 0 + d) ≡ vertex_priority g (get_or heads s 0)
+priority_along : (g : CostGraph) (heads lens slots : List ℕ) (s d : ℕ) → AreSegmentsOf g heads lens slots → s < length heads → d < get_or lens s 0 → vertex_priority g (get_or heads s 0 + d) ≡ vertex_priority g (get_or heads s 0)
 priority_along g heads lens slots s zero cut lt d_lt = let e : get_or heads s 0 + 0 ≡ get_or heads s 0 = omega arith in ap (vertex_priority g) e
 priority_along g heads lens slots s (suc d) cut lt d_lt =
     let v : ℕ = get_or heads s 0 + suc d in
@@ -25,7 +25,7 @@ priority_along g heads lens slots s (suc d) cut lt d_lt =
     owner_priority g v f.thread f.owns ∙ sym (owner_priority g (v - 1) f.thread f.owns_before) ∙ ap (vertex_priority g) before ∙ priority_along g heads lens slots s d cut lt (omega (arith, d_lt))
 
 -- all vertices of a segment have the priority of its first
-pub priority_same : (g : CostGraph) (heads lens slots : List ℕ) (v : ℕ) → IsCut g heads lens slots → v < vertex_total g → vertex_priority g v ≡ vertex_priority g (get_or heads (get_or slots v 0) 0)
+pub priority_same : (g : CostGraph) (heads lens slots : List ℕ) (v : ℕ) → AreSegmentsOf g heads lens slots → v < vertex_total g → vertex_priority g v ≡ vertex_priority g (get_or heads (get_or slots v 0) 0)
 priority_same g heads lens slots v cut lt =
     let at = cut.stands v lt in
     let s = get_or slots v 0 in
@@ -46,7 +46,7 @@ Counted g slots words i k v = (v < vertex_total g) × (get_or slots v 0 < k) × 
 pub counted_none : (g : CostGraph) (slots words : List ℕ) (i : ℕ) → IsCount (Counted g slots words i 0) 0
 counted_none g slots words i = count_none (Counted g slots words i 0) (λ v h. omega (arith, h.1))
 
-module _ (g : CostGraph) (heads lens slots words : List ℕ) (i k count : ℕ) (cut : IsCut g heads lens slots) (lt : k < length heads) (old : IsCount (Counted g slots words i k) count) where
+module _ (g : CostGraph) (heads lens slots words : List ℕ) (i k count : ℕ) (cut : AreSegmentsOf g heads lens slots) (lt : k < length heads) (old : IsCount (Counted g slots words i k) count) where
   counted_yes : bit_at (get_or words k 0) i ≡ 1 → IsCount (Counted g slots words i (k + 1)) (count + get_or lens k 0)
   counted_yes bit = record {
     members = old.members ++ range_with_len (get_or heads k 0) (get_or lens k 0);
@@ -101,7 +101,7 @@ times_low zero n lt = omega arith
 times_low (suc zero) n lt = omega arith
 times_low (suc (suc b)) n lt = absurd (omega (arith, lt))
 
-pub counted_end : (g : CostGraph) (heads lens slots words : List ℕ) (i k count : ℕ) → IsCut g heads lens slots → k ≡ length heads → IsCount (Counted g slots words i k) count → IsCount (λ v. (v < vertex_total g) × (bit_at (get_or (spread slots words) v 0) i ≡ 1)) count
+pub counted_end : (g : CostGraph) (heads lens slots words : List ℕ) (i k count : ℕ) → AreSegmentsOf g heads lens slots → k ≡ length heads → IsCount (Counted g slots words i k) count → IsCount (λ v. (v < vertex_total g) × (bit_at (get_or (spread slots words) v 0) i ≡ 1)) count
 counted_end g heads lens slots words i k count cut e old =
     count_same (Counted g slots words i k) (λ v. (v < vertex_total g) × (bit_at (get_or (spread slots words) v 0) i ≡ 1)) count
     (λ v h. (h.0, ap (λ w. bit_at w i) (spread_at slots words v (omega (arith, h.0, cut.covers))) ∙ h.2))

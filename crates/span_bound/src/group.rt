@@ -9,8 +9,8 @@ ghost use Rattle.span_bound.specs.Words.{places_in};
 ghost use Rattle.span_bound.specs.Inside.Segments.{AreSegments};
 
 use crate::competitors::{competitors_of_each, counts_of_each};
-use crate::kin::{ancestors_of_each, descendants_of_each};
 use crate::level_of_each::levels_of_each;
+use crate::reachability::{ancestors_of_each, descendants_of_each};
 use crate::segments::{Segments, images_of, segments_of};
 use crate::size::Measure;
 use cost_graph::Graph;
@@ -91,10 +91,18 @@ pub(crate) fn measure_each(
     let _count = graph.vertex_count();
     let firsts = firsts_of(alloc, graph, threads)?;
     let lasts = lasts_of(alloc, graph, threads)?;
-    let above = ancestors_of_each(alloc, graph, segments, &firsts)?;
-    let beneath = descendants_of_each(alloc, graph, segments, &lasts)?;
-    let rows = levels_of_each(alloc, graph, segments, &above)?;
-    let words = competitors_of_each(alloc, graph, order, segments, threads, &above, &beneath)?;
+    let ancestor_marks = ancestors_of_each(alloc, graph, segments, &firsts)?;
+    let descendant_marks = descendants_of_each(alloc, graph, segments, &lasts)?;
+    let rows = levels_of_each(alloc, graph, segments, &ancestor_marks)?;
+    let words = competitors_of_each(
+        alloc,
+        graph,
+        order,
+        segments,
+        threads,
+        &ancestor_marks,
+        &descendant_marks,
+    )?;
     let counts = counts_of_each(graph, segments, &words);
     let places = images_of(alloc, &segments.slots, &lasts)?;
     let measures = measures_of(alloc, &counts, &rows, &places)?;

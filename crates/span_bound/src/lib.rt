@@ -3,9 +3,9 @@
 
 mod competitors;
 mod group;
-mod kin;
 mod level;
 mod level_of_each;
+mod reachability;
 mod segments;
 mod size;
 mod thread;

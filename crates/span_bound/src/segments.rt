@@ -3,7 +3,7 @@ ghost use Rattle.std.specs.List.{All};
 ghost use Rattle.cost_graph.specs.Graph.{vertex_total, parents_at, children_at};
 ghost use Rattle.cost_graph.specs.Order.{IsTopological};
 ghost use Rattle.cost_graph.specs.View.{lists};
-ghost use Rattle.span_bound.specs.Inside.Segments.{Follows, IsCut, IsCutSoFar, AreSegments, images, last_of};
+ghost use Rattle.span_bound.specs.Inside.Segments.{Follows, AreSegmentsOf, AreSegmentsOfFirst, AreSegments, images, last_of};
 
 use cost_graph::Graph;
 use std::alloc::{AllocError, Global};
@@ -97,8 +97,8 @@ fn add(
 ) -> Result<(), AllocError>
     requires along { IsTopological graph.now along.now }
     requires place { place < length along.now }
-    requires cut { IsCutSoFar graph.now along.now place heads.old.items lens.old.items slots.old.items }
-    ensures { OnOk result (IsCutSoFar graph.now along.now (place + 1) heads.new.items lens.new.items slots.new.items) }
+    requires cut { AreSegmentsOfFirst graph.now along.now place heads.old.items lens.old.items slots.old.items }
+    ensures { OnOk result (AreSegmentsOfFirst graph.now along.now (place + 1) heads.new.items lens.new.items slots.new.items) }
 {
     let _count = graph.vertex_count();
     let vertex = along[place];
@@ -117,7 +117,7 @@ fn cut_of(
     along: &[u32],
 ) -> Result<(Vec<u32>, Vec<u32>, Vec<u32>), AllocError>
     requires { IsTopological graph.now along.now }
-    ensures { IfOk result (λ c. IsCut graph.now c.0.items c.1.items c.2.items) }
+    ensures { IfOk result (λ c. AreSegmentsOf graph.now c.0.items c.1.items c.2.items) }
 {
     let count = graph.vertex_count();
     let mut heads = Vec::new(alloc);
@@ -158,7 +158,7 @@ fn children_in(
     lens: &[u32],
     slots: &[u32],
 ) -> Result<Vec<Vec<u32>>, AllocError>
-    requires cut { IsCut graph.now heads.now lens.now slots.now }
+    requires cut { AreSegmentsOf graph.now heads.now lens.now slots.now }
     ensures long { IfOk result (λ c. length c.items ≡ length heads.now) }
     ensures are { IfOk result (λ c. (s : ℕ) → s < length heads.now → get_or (lists c.items) s [] ≡ images slots.now (children_at graph.now (last_of heads.now lens.now s))) }
 {

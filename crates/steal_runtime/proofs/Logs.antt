@@ -11,7 +11,7 @@ use Rattle.std.proofs.lemmas.List.Elements.{All-contains, All-from_recursion, Co
 use Rattle.std.proofs.lemmas.Option.{same_Some, none-some}
 use Rattle.priml_syntax.specs.Paths.{same_path}
 use Rattle.priml_syntax.proofs.Orders.{same_path_is}
-use Rattle.core_steps.specs.Config.{Thread, thread_at, IsFinished}
+use Rattle.core_steps.specs.Config.{Thread, thread_by_path, IsFinished}
 use Rattle.core_steps.specs.Determined.{events_in, events_of}
 use Rattle.core_steps.specs.Steps.{outcome_in}
 use Rattle.priml_syntax.specs.Values.{Outcome'}
@@ -86,7 +86,7 @@ log_entry (y ∷ ys) p h = go (same_path y.log.path p) refl h (log_entry ys p)
     go false q k f = let r = f k in (suc r.0, r.1, r.2, r.3)
 
 -- what a path finds is there
-found_in : (c : List Thread) (p : List ℕ) (t : Thread) → thread_at c p ≡ Some t → Contains c t
+found_in : (c : List Thread) (p : List ℕ) (t : Thread) → thread_by_path c p ≡ Some t → Contains c t
 found_in [] p t e = absurd (none-some t e)
 found_in (x ∷ xs) p t e = ⊎_elim
     (λ s. (0, omega arith, same_Some x t (sym (found_first x xs p s) ∙ e)))
@@ -106,7 +106,7 @@ module _ (key : About) (shards : List (List Entry)) (c : List Thread) (k : Keeps
       (λ n. absurd (some-ne-none e (sym (ap (λ (x : List Entry). get_elem? x i) (sym (get_or_past shards j [] (let d = k.deep in omega (arith, d, n)))) ∙ at))))
 
   -- the log of an entry is that of its thread
-  log_of_thread : (j i : ℕ) (e : Entry) → get_elem? (shard_at shards j) i ≡ some e → (t : Thread) → thread_at c e.log.path ≡ Some t → IsLogOf t e.log
+  log_of_thread : (j i : ℕ) (e : Entry) → get_elem? (shard_at shards j) i ≡ some e → (t : Thread) → thread_by_path c e.log.path ≡ Some t → IsLogOf t e.log
   log_of_thread j i e at t found = let l = inside j i e at in let own = k.placed j l i e at in let holds = k.entries j l i e at in let prio = holds.0 in record {
     path = sym (found_path c e.log.path t found);
     prio = sym prio.3 ∙ (core_laws (the_job key)).one_state.prio e.log.path prio.0 t.events prio.1 t.state prio.2 ((core_laws (the_job key)).determined c e.log.path t k.reached found);
@@ -120,13 +120,13 @@ module _ (key : About) (shards : List (List Entry)) (c : List Thread) (k : Keeps
 
   each : IsFinished c → (t : Thread) → Contains c t → (l : Log) × Contains (logs_in shards) l × IsLogOf t l
   each f t h = let p = t.state.path in
-      let found : thread_at c p ≡ Some t = All-contains (λ (x : Thread). thread_at c x.state.path ≡ Some x) c t
-      (All-from_recursion (λ (x : Thread). thread_at c x.state.path ≡ Some x) c (found_each (λ (x : Thread). thread_at c x.state.path ≡ Some x) c (reached_closed (the_job key) c k.reached).order
-      (λ q x e. subst (λ (z : List ℕ). thread_at c z ≡ Some x) (sym (found_path c q x e)) e))) h in
+      let found : thread_by_path c p ≡ Some t = All-contains (λ (x : Thread). thread_by_path c x.state.path ≡ Some x) c t
+      (All-from_recursion (λ (x : Thread). thread_by_path c x.state.path ≡ Some x) c (found_each (λ (x : Thread). thread_by_path c x.state.path ≡ Some x) c (reached_closed (the_job key) c k.reached).order
+      (λ q x e. subst (λ (z : List ℕ). thread_by_path c z ≡ Some x) (sym (found_path c q x e)) e))) h in
       let out = All-contains HasOutcome c t (All-from_recursion HasOutcome c (each_outcome c f)) h in
       let done : ended (log_of shards p) ≡ true = ap ended (sym (k.reads p)) ∙ has_ended (the_job key) c p k.reached (t, out.0, found, out.1) in
       let e = log_entry (shard_at shards (shard_of p)) p done in
-      (e.1.log, entry_log shards (shard_of p) e.0 e.1 e.2, log_of_thread (shard_of p) e.0 e.1 e.2 t (subst (λ (z : List ℕ). thread_at c z ≡ Some t) (sym e.3) found))
+      (e.1.log, entry_log shards (shard_of p) e.0 e.1 e.2, log_of_thread (shard_of p) e.0 e.1 e.2 t (subst (λ (z : List ℕ). thread_by_path c z ≡ Some t) (sym e.3) found))
 
   pub reads_as : IsFinished c → ReadAs (logs_in shards) c
   reads_as f = record { each = each f; only = only }

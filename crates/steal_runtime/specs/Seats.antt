@@ -3,7 +3,7 @@ use Rattle.std.specs.Prelude.{◌≡◌, ℕ, ◌+◌, ◌<◌, List, length, tr
 use mathlib.Core.Option.{some}
 use lib.ListN.{get_elem?}
 use Rattle.type_rules.specs.Jobs.{WithInputs}
-use Rattle.core_steps.specs.Moves.{job_of}
+use Rattle.core_steps.specs.Moves.{read_job}
 use Rattle.core_steps.specs.Steps.{Job}
 use Rattle.trace_book.specs.Segments.{SegmentFields}
 use Rattle.task_state.specs.declared.task.Task.{Task}
@@ -36,7 +36,7 @@ Stays b s t = Sits b t × SameSeat (knows s) (knows t)
 
 -- a worker can keep to these numbers at the board
 abbrev pub Serves : Board → WithInputs → Duty → Type 0
-Serves b job d = (the_job (about b) ≡ job_of job) × (d.worker < (about b).opened) × ((about b).quantum ≡ d.quantum) × ((about b).limit ≡ d.limit) × (0 < d.quantum)
+Serves b job d = (the_job (about b) ≡ read_job job) × (d.worker < (about b).opened) × ((about b).quantum ≡ d.quantum) × ((about b).limit ≡ d.limit) × (0 < d.quantum)
 
 -- a worker has left; where it says that every thread has ended its seat has found it so
 abbrev pub Leaves : Board → Left → Type 0

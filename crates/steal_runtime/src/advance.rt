@@ -1,7 +1,7 @@
 //! A worker runs a task for one quantum.
 ghost use Rattle.std.specs.Prelude.{◌≡◌, ◌<◌, ◌≤◌, length, true, Bool, IfOk, IfSome};
 ghost use Rattle.priml_syntax.specs.Events.{AllJoins};
-ghost use Rattle.core_steps.specs.Moves.{job_of};
+ghost use Rattle.core_steps.specs.Moves.{read_job};
 ghost use Rattle.task_state.specs.Segments.{IsHandedOut};
 ghost use Rattle.task_state.specs.Tasks.{OfJob, read_task};
 ghost use Rattle.join_board.specs.Calls.{HasSeen};
@@ -33,7 +33,7 @@ fn settle<R: Wait, L: Lanes>(
 ) -> Result<bool, AllocError>
     requires seat { Sits board.now seat.old }
     requires duty { (duty.worker < (about board.now).opened) × ((about board.now).quantum ≡ duty.quantum) × ((about board.now).limit ≡ duty.limit) }
-    requires lanes { job_of (L.job end.old) ≡ the_job (about board.now) }
+    requires lanes { read_job (L.job end.old) ≡ the_job (about board.now) }
     requires task { OfJob (the_job (about board.now)) (read_task task.old) }
     requires steps { (length (read_task task.old).pending ≤ duty.quantum) × AllJoins (HasSeenEnd (knows seat.old)) (read_task task.old).pending }
     ensures seat { Stays board.now seat.old seat.new }

@@ -1,7 +1,7 @@
 //! A worker puts tasks into its lanes.
 ghost use Rattle.std.specs.Prelude.{◌≡◌};
 ghost use Rattle.std.specs.List.{All};
-ghost use Rattle.core_steps.specs.Moves.{job_of};
+ghost use Rattle.core_steps.specs.Moves.{read_job};
 ghost use Rattle.task_state.specs.Tasks.{read_task};
 ghost use Rattle.priority_deques.specs.Tasks.{IsAtRest};
 
@@ -12,7 +12,7 @@ use task_state::Task;
 
 /// Puts the task. Where its deque can't grow it is let go.
 pub(crate) fn put<R: Wait, L: Lanes>(rt: &R, end: &mut L, task: Task) -> Result<(), AllocError>
-    requires { IsAtRest (job_of (L.job end.old)) (read_task task) }
+    requires { IsAtRest (read_job (L.job end.old)) (read_task task) }
     ensures { L.job end.new ≡ L.job end.old }
 {
     match end.put(rt, task) {
@@ -27,7 +27,7 @@ pub(crate) fn put_all<R: Wait, L: Lanes>(
     end: &mut L,
     tasks: Vec<Task>,
 ) -> Result<(), AllocError>
-    requires { All (λ t. IsAtRest (job_of (L.job end.old)) (read_task t)) tasks.items }
+    requires { All (λ t. IsAtRest (read_job (L.job end.old)) (read_task t)) tasks.items }
     ensures { L.job end.new ≡ L.job end.old }
 {
     for task in tasks {

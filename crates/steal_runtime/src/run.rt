@@ -1,7 +1,7 @@
 //! Runs of a job on workers.
 ghost use Rattle.std.specs.Prelude.{◌≡◌, ◌+◌, ◌-◌, ◌^◌, ◌<◌, ◌≤◌, length, true, IfErr, IfOk, OnOk, vec_len};
 ghost use Rattle.std.specs.List.{All};
-ghost use Rattle.core_steps.specs.Moves.{job_of};
+ghost use Rattle.core_steps.specs.Moves.{read_job};
 ghost use Rattle.priority_deques.specs.EndBooks.{steal_job};
 ghost use Rattle.join_board.specs.Jobs.{the_job};
 ghost use Rattle.steal_runtime.specs.Runs.{IsRun, IsStop};
@@ -150,8 +150,8 @@ pub fn run_over<R: Threads + Wait + Sync, L: Lanes + Send, G: Gate>(
     requires ends { (0 < vec_len ends) × (vec_len ends ≤ 16) }
     requires lanes { All (λ e. L.job e ≡ job.now) ends.items }
     requires ranges { (0 < quantum) × (limit + 1 < 2 ^ 64) }
-    ensures ok { IfOk result (λ b. IsRun (job_of job.now) (vec_len ends) quantum limit b) }
-    ensures stop { IfErr result (λ s. IsStop (job_of job.now) limit s) }
+    ensures ok { IfOk result (λ b. IsRun (read_job job.now) (vec_len ends) quantum limit b) }
+    ensures stop { IfErr result (λ s. IsStop (read_job job.now) limit s) }
 {
     let (board, seats) = Board::new(alloc, job, ends.len() as u32, quantum, limit)?;
     let mut ends = ends;
@@ -181,8 +181,8 @@ pub fn run_job<R: Threads + Wait + Sync, G: Gate>(
 ) -> Result<Book, RunStop>
     requires workers { (0 < workers) × (workers ≤ 16) }
     requires ranges { (0 < quantum) × (limit + 1 < 2 ^ 64) }
-    ensures ok { IfOk result (λ b. IsRun (job_of job.now) workers quantum limit b) }
-    ensures stop { IfErr result (λ s. IsStop (job_of job.now) limit s) }
+    ensures ok { IfOk result (λ b. IsRun (read_job job.now) workers quantum limit b) }
+    ensures stop { IfErr result (λ s. IsStop (read_job job.now) limit s) }
 {
     let ends = StealLanes::open(alloc, job, workers)?;
     run_over(rt, alloc, job, ends, quantum, limit, gate)

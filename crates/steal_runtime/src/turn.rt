@@ -1,6 +1,6 @@
 //! A worker's turn with a task.
 ghost use Rattle.std.specs.Prelude.{◌≡◌};
-ghost use Rattle.core_steps.specs.Moves.{job_of};
+ghost use Rattle.core_steps.specs.Moves.{read_job};
 ghost use Rattle.task_state.specs.Tasks.{read_task};
 ghost use Rattle.priority_deques.specs.Tasks.{IsAtRest};
 ghost use Rattle.steal_runtime.specs.Seats.{Serves, Sits, Stays};
@@ -30,7 +30,7 @@ pub(crate) fn turn<R: Wait, L: Lanes>(
     requires seat { Sits board.now seat.old }
     requires duty { Serves board.now job.now duty }
     requires lanes { L.job end.old ≡ job.now }
-    requires task { IsAtRest (job_of job.now) (read_task task) }
+    requires task { IsAtRest (read_job job.now) (read_task task) }
     ensures seat { Stays board.now seat.old seat.new }
     ensures lanes { L.job end.new ≡ L.job end.old }
 {

@@ -1,6 +1,6 @@
 //! A worker's task awaits a thread.
 ghost use Rattle.std.specs.Prelude.{◌≡◌, ◌≤◌, ◌^◌, IfOk, IfSome, Some, IsSome};
-ghost use Rattle.core_steps.specs.Moves.{job_of};
+ghost use Rattle.core_steps.specs.Moves.{read_job};
 ghost use Rattle.task_state.specs.Tasks.{awaited_of, read_task};
 ghost use Rattle.join_board.specs.Handles.{knows};
 ghost use Rattle.join_board.specs.Jobs.{the_job};
@@ -40,7 +40,7 @@ pub(crate) fn wait_for<R: Wait, L: Lanes>(
     task: Task,
 ) -> Result<Option<Task>, AllocError>
     requires seat { Sits board.now seat.old }
-    requires lanes { job_of (L.job end.old) ≡ the_job (about board.now) }
+    requires lanes { read_job (L.job end.old) ≡ the_job (about board.now) }
     requires task { AwaitsOne (the_job (about board.now)) (read_task task) }
     ensures seat { Stays board.now seat.old seat.new }
     ensures lanes { L.job end.new ≡ L.job end.old }

@@ -3,7 +3,7 @@ ghost use Rattle.std.specs.Prelude.{◌≡◌, IfOk, IfErr, length, slice_get, �
 ghost use Rattle.std.specs.Option.{option_copied, option_map};
 ghost use Rattle.core_steps.specs.Fields.{read_local, state_of};
 ghost use Rattle.core_steps.specs.Locals.{IsLocal};
-ghost use Rattle.core_steps.specs.Moves.{job_of};
+ghost use Rattle.core_steps.specs.Moves.{read_job};
 ghost use Rattle.core_steps.specs.Steps.{Job as TheJob, root_state};
 ghost use Rattle.task_state.specs.Tasks.{IsStart, awaited_of, awaits_in, begun, has_ended, read_task};
 
@@ -46,17 +46,17 @@ pub enum Halt {
 impl Task {
     /// The task of the first root, not started.
     pub fn root(alloc: Global, job: &Job) -> Result<Task, AllocError>
-        ensures start { IfOk result (λ t. IsStart (job_of job.now) (read_task t)) }
-        ensures root { IfOk result (λ t. option_map (λ m. root_state m 0) (slice_get (job_of job.now).program.mains 0) ≡ state_of (job_of job.now).program (read_task t).local) }
+        ensures start { IfOk result (λ t. IsStart (read_job job.now) (read_task t)) }
+        ensures root { IfOk result (λ t. option_map (λ m. root_state m 0) (slice_get (read_job job.now).program.mains 0) ≡ state_of (read_job job.now).program (read_task t).local) }
     {
         Task::root_at(alloc, job, 0)
     }
 
     /// The task of the k-th root, from 0, not started.
     pub fn root_at(alloc: Global, job: &Job, k: u32) -> Result<Task, AllocError>
-        requires { k < length (job_of job.now).program.mains }
-        ensures start { IfOk result (λ t. IsStart (job_of job.now) (read_task t)) }
-        ensures root { IfOk result (λ t. option_map (λ m. root_state m k) (slice_get (job_of job.now).program.mains k) ≡ state_of (job_of job.now).program (read_task t).local) }
+        requires { k < length (read_job job.now).program.mains }
+        ensures start { IfOk result (λ t. IsStart (read_job job.now) (read_task t)) }
+        ensures root { IfOk result (λ t. option_map (λ m. root_state m k) (slice_get (read_job job.now).program.mains k) ≡ state_of (read_job job.now).program (read_task t).local) }
     {
         let local = Local::root_at(alloc, job, k)?;
         begin(alloc, local)

@@ -18,7 +18,7 @@ use Rattle.type_rules.specs.declared.TypeKind.{TypeKind}
 use Rattle.type_rules.specs.declared.TypeKind.TheVariants.{Cycle, Arity, Mismatch, NotThread, WrongPriority, Constraint as ConstraintKind, Inversion, Wide}
 use Rattle.type_rules.specs.declared.TypeStop.{TypeStop}
 use Rattle.type_rules.specs.declared.TypeStop.TheVariants.{Fault, OutOfMemory}
-use Rattle.type_rules.specs.Typing.{Scope, Setting, HasType, HaveTypes, InScope, AllInScope, CallFits, Holds, at_prios, type_at}
+use Rattle.type_rules.specs.Typing.{VarTypes, Context, HasType, HaveTypes, InScope, AllInScope, CallFits, Holds, subst_prio, subst_type}
 use Rattle.priml_syntax.specs.Tree.{Signature}
 use Rattle.type_rules.specs.Nodes.{CallFails, rank}
 use Rattle.type_rules.specs.Faults.{TermFaults, TermsFault}
@@ -26,15 +26,15 @@ use Rattle.priml_syntax.specs.Read.{read_sig}
 use Rattle.type_rules.specs.Answers.{TermStops, TermsStop, ActStops}
 use Rattle.type_rules.proofs.Unique.{same_types}
 
-pub have_push : (G : Scope) (es : List Term) (Ts : List Type') (e : Term) (T : Type') → HaveTypes G es Ts → HasType G e T → HaveTypes G (es ++ e ∷ []) (Ts ++ T ∷ [])
+pub have_push : (G : VarTypes) (es : List Term) (Ts : List Type') (e : Term) (T : Type') → HaveTypes G es Ts → HasType G e T → HaveTypes G (es ++ e ∷ []) (Ts ++ T ∷ [])
 have_push G [] Ts e T h k = (T, [], k, refl, ap (λ xs. xs ++ T ∷ []) h)
 have_push G (d ∷ es) Ts e T h k = (h.0, h.1 ++ T ∷ [], h.2, have_push G es h.1 e T h.3 k, ap (λ xs. xs ++ T ∷ []) h.4)
 
-pub fault_after : (G : Scope) (es : List Term) (Ts : List Type') (e : Term) (more : List Term) (k : TypeKind) (p : ℕ) → HaveTypes G es Ts → TermFaults e G k p → TermsFault (es ++ e ∷ more) G k p
+pub fault_after : (G : VarTypes) (es : List Term) (Ts : List Type') (e : Term) (more : List Term) (k : TypeKind) (p : ℕ) → HaveTypes G es Ts → TermFaults e G k p → TermsFault (es ++ e ∷ more) G k p
 fault_after G [] Ts e more k p h f = inl f
 fault_after G (d ∷ es) Ts e more k p h f = inr (h.0, h.2, fault_after G es h.1 e more k p h.3 f)
 
-pub stop_after : (G : Scope) (es : List Term) (Ts : List Type') (e : Term) (more : List Term) (stop : TypeStop) → HaveTypes G es Ts → TermStops G e stop → TermsStop G (es ++ e ∷ more) stop
+pub stop_after : (G : VarTypes) (es : List Term) (Ts : List Type') (e : Term) (more : List Term) (stop : TypeStop) → HaveTypes G es Ts → TermStops G e stop → TermsStop G (es ++ e ∷ more) stop
 stop_after G es Ts e more (Fault f) h k = fault_after G es Ts e more f.kind f.at h k
 stop_after G es Ts e more OutOfMemory h k = tt
 
@@ -44,14 +44,14 @@ in_scope_at n (e ∷ es) zero d lt h = h.0
 in_scope_at n (e ∷ es) (suc i) d lt h = in_scope_at n es i d (omega arith) h.1
 
 -- the priorities, the arguments and the own priority fit, each where the ones before it do
-no_arity : (s : Setting) (G : Scope) (r : Prio) (sig : Signature) (ps : List Prio) (es : List Term) → length ps ≡ sig.vars → length es ≡ length sig.params → CallFails s G r sig ps es Arity → ⊥
+no_arity : (s : Context) (G : VarTypes) (r : Prio) (sig : Signature) (ps : List Prio) (es : List Term) → length ps ≡ sig.vars → length es ≡ length sig.params → CallFails s G r sig ps es Arity → ⊥
 no_arity s G r sig ps es e f (inl h) = h e
 no_arity s G r sig ps es e f (inr h) = h f
 
-no_mismatch : (s : Setting) (G : Scope) (r : Prio) (sig : Signature) (ps : List Prio) (es : List Term) → HaveTypes G es (map (type_at ps) sig.params) → CallFails s G r sig ps es Mismatch → ⊥
-no_mismatch s G r sig ps es h f = f.2 (same_types es G f.0 (map (type_at ps) sig.params) f.1 h)
+no_mismatch : (s : Context) (G : VarTypes) (r : Prio) (sig : Signature) (ps : List Prio) (es : List Term) → HaveTypes G es (map (subst_type ps) sig.params) → CallFails s G r sig ps es Mismatch → ⊥
+no_mismatch s G r sig ps es h f = f.2 (same_types es G f.0 (map (subst_type ps) sig.params) f.1 h)
 
-module _ (s : Setting) (G : Scope) (r : Prio) (sig : Signature) (ps : List Prio) (es : List Term) where
+module _ (s : Context) (G : VarTypes) (r : Prio) (sig : Signature) (ps : List Prio) (es : List Term) where
   pub least_arity : (l : TypeKind) → CallFails s G r sig ps es l → rank Arity ≤ rank l
   least_arity Cycle h = absurd h
   least_arity Arity h = omega arith
@@ -100,21 +100,21 @@ module _ (s : Setting) (G : Scope) (r : Prio) (sig : Signature) (ps : List Prio)
     stop_arity h = stops Arity h least_arity
 
     module _ (vars : length ps ≡ sig.vars) (params : length es ≡ length sig.params) where
-      pub stop_mismatch : Ts ≢ map (type_at ps) sig.params → (stop : TypeStop) → stop ≡ Fault (record { kind = Mismatch; at = at }) → ActStops s G r at (call f ps es) stop
+      pub stop_mismatch : Ts ≢ map (subst_type ps) sig.params → (stop : TypeStop) → stop ≡ Fault (record { kind = Mismatch; at = at }) → ActStops s G r at (call f ps es) stop
       stop_mismatch h = stops Mismatch (Ts, have, h) (least_mismatch (no_arity s G r sig ps es vars params))
 
-      module _ (fit : Ts ≡ map (type_at ps) sig.params) where
-        fits : HaveTypes G es (map (type_at ps) sig.params)
+      module _ (fit : Ts ≡ map (subst_type ps) sig.params) where
+        fits : HaveTypes G es (map (subst_type ps) sig.params)
         fits = subst (HaveTypes G es) fit have
 
-        pub stop_wrong : at_prios ps sig.own ≢ r → (stop : TypeStop) → stop ≡ Fault (record { kind = WrongPriority; at = at }) → ActStops s G r at (call f ps es) stop
+        pub stop_wrong : subst_prio ps sig.own ≢ r → (stop : TypeStop) → stop ≡ Fault (record { kind = WrongPriority; at = at }) → ActStops s G r at (call f ps es) stop
         stop_wrong h = stops WrongPriority h (least_wrong (no_arity s G r sig ps es vars params) (no_mismatch s G r sig ps es fits))
 
-        module _ (own : at_prios ps sig.own ≡ r) where
-          pub stop_constraint : (c : Constraint) → Contains sig.given c → (Holds s (at_prios ps c.0) (at_prios ps c.1) → ⊥) → (stop : TypeStop) → stop ≡ Fault (record { kind = ConstraintKind; at = at }) → ActStops s G r at (call f ps es) stop
+        module _ (own : subst_prio ps sig.own ≡ r) where
+          pub stop_constraint : (c : Constraint) → Contains sig.given c → (Holds s (subst_prio ps c.0) (subst_prio ps c.1) → ⊥) → (stop : TypeStop) → stop ≡ Fault (record { kind = ConstraintKind; at = at }) → ActStops s G r at (call f ps es) stop
           stop_constraint c h k = stops ConstraintKind (c, h, k) (least_constraint (no_arity s G r sig ps es vars params) (no_mismatch s G r sig ps es fits) (λ w. w own))
 
-          pub call_fits : All (λ (c : Constraint). Holds s (at_prios ps c.0) (at_prios ps c.1)) sig.given → (T : Type') → T ≡ type_at ps sig.gives → CallFits s G r f ps es T
+          pub call_fits : All (λ (c : Constraint). Holds s (subst_prio ps c.0) (subst_prio ps c.1)) sig.given → (T : Type') → T ≡ subst_type ps sig.gives → CallFits s G r f ps es T
           call_fits h T e = record { sig = sig; is = is; prios = vars; arguments = fits; own = own; constraints = h; gives = e }
 
 -- the procedure at an index
@@ -140,8 +140,8 @@ split_list es i d lt e = sym (take-append-drop i es) ∙ ap (λ x. take i es ++ 
 pub split_terms : (es : List Expr) (i : ℕ) (d : Expr) → i < length es → d ≡ get_or es i d → map read_term es ≡ map read_term (take i es) ++ read_term d ∷ map read_term (drop (i + 1) es)
 split_terms es i d lt e = ap (map read_term) (split_list es i d lt e) ∙ map-append read_term (take i es) (d ∷ drop (i + 1) es)
 
-pub same_at : (ps : List Prio) (xs : List Shared) (ys : List Ty) (i : ℕ) (d : Shared) (e : Ty) → i < length xs → i < length ys → d ≡ get_or xs i d → e ≡ get_or ys i e → map read_shared xs ≡ map (type_at ps) (map read_type ys) → read_shared d ≡ type_at ps (read_type e)
+pub same_at : (ps : List Prio) (xs : List Shared) (ys : List Ty) (i : ℕ) (d : Shared) (e : Ty) → i < length xs → i < length ys → d ≡ get_or xs i d → e ≡ get_or ys i e → map read_shared xs ≡ map (subst_type ps) (map read_type ys) → read_shared d ≡ subst_type ps (read_type e)
 same_at ps [] ys i d e lx ly p q h = absurd (omega arith)
 same_at ps (x ∷ xs) [] i d e lx ly p q h = absurd (omega arith)
-same_at ps (x ∷ xs) (y ∷ ys) zero d e lx ly p q h = ap read_shared p ∙ (cc) ∙ ap (λ (t : Ty). type_at ps (read_type t)) (sym q)
+same_at ps (x ∷ xs) (y ∷ ys) zero d e lx ly p q h = ap read_shared p ∙ (cc) ∙ ap (λ (t : Ty). subst_type ps (read_type t)) (sym q)
 same_at ps (x ∷ xs) (y ∷ ys) (suc i) d e lx ly p q h = same_at ps xs ys i d e (omega arith) (omega arith) p q (cc)

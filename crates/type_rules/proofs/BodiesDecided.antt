@@ -4,13 +4,13 @@ use Rattle.std.specs.Prelude.{slice_get, Some}
 use Rattle.priml_syntax.specs.declared.prio.Prio.{Prio}
 use Rattle.priml_syntax.specs.declared.expr.Op.{Op}
 use Rattle.priml_syntax.specs.Size.{type_nodes}
-use Rattle.priml_syntax.specs.Tree.{Signature, Type', unit, bool, int, pair, sum, thread, Term, var, number, truth, nothing, both, first, second, left, right, binary, negated, Code, block, Body, bind, give, branch, split, Act, ret, spawn, sync, call, run, input, output}
+use Rattle.priml_syntax.specs.Tree.{Signature, Type', unit, bool, int, pair, sum, thread, Term, var, number, bool_term, unit_term, pair_term, first, second, left, right, binary, negated, Code, block, Body, bind, ret_tail, if_tail, case_tail, Act, ret, spawn, sync, call, do_block, input, output}
 use Rattle.constraint_proof.specs.Entailed.{Constraint}
 use Rattle.constraint_proof.proofs.Decided.{same_prio_or_not, entailed_or_not}
 use Rattle.type_rules.specs.declared.TypeKind.{TypeKind}
 use Rattle.type_rules.specs.declared.TypeKind.TheVariants.{Arity, Mismatch, NotThread, WrongPriority, Constraint as ConstraintKind, Inversion, Wide}
 use Rattle.type_rules.specs.declared.TypeStop.TheVariants.{Fault}
-use Rattle.type_rules.specs.Typing.{Scope, Setting, HasType, HaveTypes, CodeHas, BodyHas, ActHas, Holds, at_prios, type_at, operand, gives, InScope, AllInScope, CodeInScope, BodyInScope, ActInScope}
+use Rattle.type_rules.specs.Typing.{VarTypes, Context, HasType, HaveTypes, CodeHas, BodyHas, ActHas, Holds, subst_prio, subst_type, operand, gives, InScope, AllInScope, CodeInScope, BodyInScope, ActInScope}
 use Rattle.type_rules.specs.Faults.{TermFaults, TermsFault, ActFault, CodeFaults, BodyFaults, PartsFault}
 use Rattle.type_rules.proofs.Arguments.{stop_arity, stop_mismatch, stop_wrong, stop_constraint, call_fits}
 use Rattle.type_rules.proofs.TypeForms.{at_most_or_more, same_number_or_not, both_or_either, same_type_or_not, same_types_or_not, pair_or_not, sum_or_not, thread_or_not, left_or_not, right_or_not, all_or_one}
@@ -21,24 +21,24 @@ found_at (x ∷ xs) zero h = (x, refl)
 found_at (x ∷ xs) (suc k) h = found_at xs k (omega arith)
 
 -- an expression, expressions, a block, a body or an action has a type, or a first fault
-abbrev TermDecided : Scope → Term → Type 0
+abbrev TermDecided : VarTypes → Term → Type 0
 TermDecided G e = ((T : Type') × HasType G e T) ⊎ ((k : TypeKind) × (p : ℕ) × TermFaults e G k p)
 
-abbrev TermsDecided : Scope → List Term → Type 0
+abbrev TermsDecided : VarTypes → List Term → Type 0
 TermsDecided G es = ((Ts : List Type') × HaveTypes G es Ts) ⊎ ((k : TypeKind) × (p : ℕ) × TermsFault es G k p)
 
-abbrev pub CodeDecided : Setting → Scope → Prio → Code → Type 0
+abbrev pub CodeDecided : Context → VarTypes → Prio → Code → Type 0
 CodeDecided s G r c = ((T : Type') × CodeHas c s G r T) ⊎ ((k : TypeKind) × (p : ℕ) × CodeFaults c s G r k p)
 
-abbrev BodyDecided : Setting → Scope → Prio → Body → Type 0
+abbrev BodyDecided : Context → VarTypes → Prio → Body → Type 0
 BodyDecided s G r b = ((T : Type') × BodyHas b s G r T) ⊎ ((k : TypeKind) × (p : ℕ) × BodyFaults b s G r k p)
 
-abbrev ActDecided : Setting → Scope → Prio → ℕ → Act → Type 0
+abbrev ActDecided : Context → VarTypes → Prio → ℕ → Act → Type 0
 ActDecided s G r at a = ((T : Type') × ActHas a s G r T) ⊎ ((k : TypeKind) × (p : ℕ) × (PartsFault a s G r k p ⊎ (ActFault s G r a k × (p ≡ at))))
 
 -- a node, whose parts have types or a first fault
-module _ (G : Scope) (at : ℕ) where
-  pair_decided : (a b : Term) → TermDecided G a → TermDecided G b → TermDecided G (both at a b)
+module _ (G : VarTypes) (at : ℕ) where
+  pair_decided : (a b : Term) → TermDecided G a → TermDecided G b → TermDecided G (pair_term at a b)
   pair_decided a b (inr f) rest = inr (f.0, f.1, inl f.2)
   pair_decided a b (inl A) (inr f) = inr (f.0, f.1, inr (inl (A.0, A.1, f.2)))
   pair_decided a b (inl A) (inl B) =
@@ -96,12 +96,12 @@ module _ (G : Scope) (at : ℕ) where
         | inr none ↦ inr (Mismatch, at, inr ((A.0, A.1, none, refl), refl))
       ]
 
-term_decided : (e : Term) (G : Scope) → InScope (length G) e → TermDecided G e
+term_decided : (e : Term) (G : VarTypes) → InScope (length G) e → TermDecided G e
 term_decided (var at x) G h = inl (found_at G x h)
 term_decided (number at n) G h = inl (int, refl)
-term_decided (truth at b) G h = inl (bool, refl)
-term_decided (nothing at) G h = inl (unit, refl)
-term_decided (both at a b) G h = pair_decided G at a b (term_decided a G h.0) (term_decided b G h.1)
+term_decided (bool_term at b) G h = inl (bool, refl)
+term_decided (unit_term at) G h = inl (unit, refl)
+term_decided (pair_term at a b) G h = pair_decided G at a b (term_decided a G h.0) (term_decided b G h.1)
 term_decided (first at a) G h = first_decided G at a (term_decided a G h)
 term_decided (second at a) G h = second_decided G at a (term_decided a G h)
 term_decided (left at S a) G h = left_decided G at S a (term_decided a G h)
@@ -109,7 +109,7 @@ term_decided (right at S a) G h = right_decided G at S a (term_decided a G h)
 term_decided (binary at op a b) G h = binary_decided G at op a b (term_decided a G h.0) (term_decided b G h.1)
 term_decided (negated at a) G h = negated_decided G at a (term_decided a G h)
 
-terms_decided : (es : List Term) (G : Scope) → AllInScope (length G) es → TermsDecided G es
+terms_decided : (es : List Term) (G : VarTypes) → AllInScope (length G) es → TermsDecided G es
 terms_decided [] G h = inl ([], refl)
 terms_decided (e ∷ es) G h = go (term_decided e G h.0) (terms_decided es G h.1) where
   go : TermDecided G e → TermsDecided G es → TermsDecided G (e ∷ es)
@@ -117,24 +117,24 @@ terms_decided (e ∷ es) G h = go (term_decided e G h.0) (terms_decided es G h.1
   go (inl A) (inr f) = inr (f.0, f.1, inr (A.0, A.1, f.2))
   go (inl A) (inl Ts) = inl (A.0 ∷ Ts.0, (A.0, Ts.0, A.1, Ts.1, refl))
 
-module _ (s : Setting) (G : Scope) (r : Prio) (at : ℕ) where
+module _ (s : Context) (G : VarTypes) (r : Prio) (at : ℕ) where
   -- a call whose arguments have types
   module _ (f : ℕ) (ps : List Prio) (es : List Term) (sig : Signature) (is : slice_get s.procs f ≡ Some sig) (Ts : List Type') (have : HaveTypes G es Ts) where
     abbrev CallDecided : Type 0
     CallDecided = ActDecided s G r at (call f ps es)
 
-    by_constraints : (vars : length ps ≡ sig.vars) (params : length es ≡ length sig.params) (fit : Ts ≡ map (type_at ps) sig.params) (own : at_prios ps sig.own ≡ r) → CallDecided
+    by_constraints : (vars : length ps ≡ sig.vars) (params : length es ≡ length sig.params) (fit : Ts ≡ map (subst_type ps) sig.params) (own : subst_prio ps sig.own ≡ r) → CallDecided
     by_constraints vars params fit own =
-        elim (all_or_one (λ (c : Constraint). Holds s (at_prios ps c.0) (at_prios ps c.1)) (λ c. entailed_or_not s.pairs s.given (at_prios ps c.0) (at_prios ps c.1)) sig.given) [
-          | inl all ↦ inl (type_at ps sig.gives, call_fits s G r sig ps es f at is Ts have vars params fit own all (type_at ps sig.gives) refl)
+        elim (all_or_one (λ (c : Constraint). Holds s (subst_prio ps c.0) (subst_prio ps c.1)) (λ c. entailed_or_not s.pairs s.given (subst_prio ps c.0) (subst_prio ps c.1)) sig.given) [
+          | inl all ↦ inl (subst_type ps sig.gives, call_fits s G r sig ps es f at is Ts have vars params fit own all (subst_type ps sig.gives) refl)
           | inr c ↦ inr (ConstraintKind, at, stop_constraint s G r sig ps es f at is Ts have vars params fit own c.0 c.1 c.2 (Fault (record { kind = ConstraintKind; at = at })) refl)
         ]
 
     by_types : (vars : length ps ≡ sig.vars) (params : length es ≡ length sig.params) → CallDecided
     by_types vars params =
-        elim (same_types_or_not Ts (map (type_at ps) sig.params)) [
+        elim (same_types_or_not Ts (map (subst_type ps) sig.params)) [
           | inr none ↦ inr (Mismatch, at, stop_mismatch s G r sig ps es f at is Ts have vars params none (Fault (record { kind = Mismatch; at = at })) refl)
-          | inl fit ↦ elim (same_prio_or_not (at_prios ps sig.own) r) [
+          | inl fit ↦ elim (same_prio_or_not (subst_prio ps sig.own) r) [
             | inr other ↦ inr (WrongPriority, at, stop_wrong s G r sig ps es f at is Ts have vars params fit other (Fault (record { kind = WrongPriority; at = at })) refl)
             | inl own ↦ by_constraints vars params fit own
           ]
@@ -171,7 +171,7 @@ module _ (s : Setting) (G : Scope) (r : Prio) (at : ℕ) where
         | inr wide ↦ inr (Wide, at, inr ((A.0, A.1, wide, refl), refl))
       ]
 
-  entered : (c : Code) → CodeDecided s G r c → ActDecided s G r at (run c)
+  entered : (c : Code) → CodeDecided s G r c → ActDecided s G r at (do_block c)
   entered c (inl A) = inl A
   entered c (inr f) = inr (f.0, f.1, inl f.2)
 
@@ -201,7 +201,7 @@ module _ (s : Setting) (G : Scope) (r : Prio) (at : ℕ) where
         | inr f ↦ inr (f.0, f.1, inr (inr (A.0, A.1, f.2)))
       ]
 
-  branch_decided : (e : Term) (a b : Code) → TermDecided G e → CodeDecided s G r a → CodeDecided s G r b → BodyDecided s G r (branch at e a b)
+  branch_decided : (e : Term) (a b : Code) → TermDecided G e → CodeDecided s G r a → CodeDecided s G r b → BodyDecided s G r (if_tail at e a b)
   branch_decided e a b (inr f) x y = inr (f.0, f.1, inl f.2)
   branch_decided e a b (inl A) (inr f) y = inr (f.0, f.1, inr (inl (A.0, A.1, f.2)))
   branch_decided e a b (inl A) (inl B) (inr f) = inr (f.0, f.1, inr (inr (inl (A.0, B.0, A.1, B.1, f.2))))
@@ -211,7 +211,7 @@ module _ (s : Setting) (G : Scope) (r : Prio) (at : ℕ) where
         | inr none ↦ inr (Mismatch, at, inr (inr (inr ((A.0, B.0, C.0, A.1, B.1, C.1, none, refl), refl))))
       ]
 
-  split_second : (e : Term) (a b : Code) (A B : Type') → HasType G e (sum A B) → (C : Type') → CodeHas a s (G ++ A ∷ []) r C → CodeDecided s (G ++ B ∷ []) r b → BodyDecided s G r (split at e a b)
+  split_second : (e : Term) (a b : Code) (A B : Type') → HasType G e (sum A B) → (C : Type') → CodeHas a s (G ++ A ∷ []) r C → CodeDecided s (G ++ B ∷ []) r b → BodyDecided s G r (case_tail at e a b)
   split_second e a b A B h C x (inr f) = inr (f.0, f.1, inr (inr (inr (inl (A, B, C, h, x, f.2)))))
   split_second e a b A B h C x (inl D) =
       elim (same_type_or_not C D.0) [
@@ -219,11 +219,11 @@ module _ (s : Setting) (G : Scope) (r : Prio) (at : ℕ) where
         | inr other ↦ inr (Mismatch, at, inr (inr (inr (inr ((A, B, C, D.0, h, x, D.1, other, refl), refl)))))
       ]
 
-  split_first : (e : Term) (a b : Code) (A B : Type') → HasType G e (sum A B) → CodeDecided s (G ++ A ∷ []) r a → CodeDecided s (G ++ B ∷ []) r b → BodyDecided s G r (split at e a b)
+  split_first : (e : Term) (a b : Code) (A B : Type') → HasType G e (sum A B) → CodeDecided s (G ++ A ∷ []) r a → CodeDecided s (G ++ B ∷ []) r b → BodyDecided s G r (case_tail at e a b)
   split_first e a b A B h (inr f) y = inr (f.0, f.1, inr (inr (inl (A, B, h, f.2))))
   split_first e a b A B h (inl C) y = split_second e a b A B h C.0 C.1 y
 
-  split_decided : (e : Term) (a b : Code) → TermDecided G e → ((A : Type') → CodeDecided s (G ++ A ∷ []) r a) → ((B : Type') → CodeDecided s (G ++ B ∷ []) r b) → BodyDecided s G r (split at e a b)
+  split_decided : (e : Term) (a b : Code) → TermDecided G e → ((A : Type') → CodeDecided s (G ++ A ∷ []) r a) → ((B : Type') → CodeDecided s (G ++ B ∷ []) r b) → BodyDecided s G r (case_tail at e a b)
   split_decided e a b (inr f) x y = inr (f.0, f.1, inl f.2)
   split_decided e a b (inl A) x y =
       elim (sum_or_not A.0) [
@@ -232,28 +232,28 @@ module _ (s : Setting) (G : Scope) (r : Prio) (at : ℕ) where
       ]
 
 -- one variable more
-deeper : (G : Scope) (A : Type') → length (G ++ A ∷ []) ≡ length G + 1
+deeper : (G : VarTypes) (A : Type') → length (G ++ A ∷ []) ≡ length G + 1
 deeper G A = length-append G (A ∷ [])
 
 mutual
-  pub code_decided : (c : Code) (s : Setting) (G : Scope) (r : Prio) → CodeInScope c (length s.procs) (length G) → CodeDecided s G r c
+  pub code_decided : (c : Code) (s : Context) (G : VarTypes) (r : Prio) → CodeInScope c (length s.procs) (length G) → CodeDecided s G r c
   code_decided (block at b) s G r h = body_decided b s G r h
 
-  body_decided : (b : Body) (s : Setting) (G : Scope) (r : Prio) → BodyInScope b (length s.procs) (length G) → BodyDecided s G r b
+  body_decided : (b : Body) (s : Context) (G : VarTypes) (r : Prio) → BodyInScope b (length s.procs) (length G) → BodyDecided s G r b
   body_decided (bind at a rest) s G r h =
       bound_decided s G r at a rest (act_decided a s G r at h.0) (λ A. body_decided rest s (G ++ A ∷ []) r (subst (BodyInScope rest (length s.procs)) (sym (deeper G A)) h.1))
-  body_decided (give at e) s G r h = term_decided e G h
-  body_decided (branch at e a b) s G r h = branch_decided s G r at e a b (term_decided e G h.0) (code_decided a s G r h.1) (code_decided b s G r h.2)
-  body_decided (split at e a b) s G r h =
+  body_decided (ret_tail at e) s G r h = term_decided e G h
+  body_decided (if_tail at e a b) s G r h = branch_decided s G r at e a b (term_decided e G h.0) (code_decided a s G r h.1) (code_decided b s G r h.2)
+  body_decided (case_tail at e a b) s G r h =
       split_decided s G r at e a b (term_decided e G h.0)
       (λ A. code_decided a s (G ++ A ∷ []) r (subst (CodeInScope a (length s.procs)) (sym (deeper G A)) h.1))
       (λ B. code_decided b s (G ++ B ∷ []) r (subst (CodeInScope b (length s.procs)) (sym (deeper G B)) h.2))
 
-  act_decided : (a : Act) (s : Setting) (G : Scope) (r : Prio) (at : ℕ) → ActInScope a (length s.procs) (length G) → ActDecided s G r at a
+  act_decided : (a : Act) (s : Context) (G : VarTypes) (r : Prio) (at : ℕ) → ActInScope a (length s.procs) (length G) → ActDecided s G r at a
   act_decided (ret e) s G r at h = returned s G r at e (term_decided e G h)
   act_decided (spawn q c) s G r at h = spawned s G r at q c (code_decided c s G q h)
   act_decided (sync x) s G r at h = awaited s G r at x h
   act_decided (call f ps es) s G r at h = called s G r at f ps es h.0 (terms_decided es G h.1)
-  act_decided (run c) s G r at h = entered s G r at c (code_decided c s G r h)
+  act_decided (do_block c) s G r at h = entered s G r at c (code_decided c s G r h)
   act_decided input s G r at h = inl (sum unit int, refl)
   act_decided (output e) s G r at h = printed s G r at e (term_decided e G h)

@@ -4,7 +4,7 @@ use Rattle.std.specs.List.{All}
 use Rattle.priml_syntax.specs.Tree.{Tree}
 use Rattle.type_rules.specs.declared.TypeKind.{TypeKind}
 use Rattle.type_rules.specs.declared.TypeKind.TheVariants.{Cycle, Arity, Mismatch, NotThread, WrongPriority, Constraint as ConstraintKind, Inversion, Wide}
-use Rattle.type_rules.specs.Typing.{Setting}
+use Rattle.type_rules.specs.Typing.{Context}
 use Rattle.type_rules.specs.Nodes.{Site, NodeFails, HasFault, rank}
 use Rattle.type_rules.specs.Typable.{setting_of, Part, a_pair, a_site, a_routine, PartTyped, PartFails, part_place, HasTypeFault}
 use Rattle.type_rules.proofs.Unique.{same_scope}
@@ -43,7 +43,7 @@ kind_of-rank Wide = refl
 same_rank : (k l : TypeKind) → rank k ≤ rank l → rank l ≤ rank k → k ≡ l
 same_rank k l h i = let e : rank k ≡ rank l = omega (arith, h, i) in sym (kind_of-rank k) ∙ ap kind_of e ∙ kind_of-rank l
 
-same_kind : (s : Setting) (n : Site) (k l : TypeKind) → HasFault s n k → HasFault s n l → k ≡ l
+same_kind : (s : Context) (n : Site) (k l : TypeKind) → HasFault s n k → HasFault s n l → k ≡ l
 same_kind s n k l f g =
     let e : f.scope ≡ g.scope = same_scope s [] n.binders f.scope g.scope f.of_binders g.of_binders in
     same_rank k l (f.least l (subst (λ G. NodeFails s G n.node l) (sym e) g.fails)) (g.least k (subst (λ G. NodeFails s G n.node k) e f.fails))

@@ -17,7 +17,7 @@ use Rattle.constraint_proof.specs.Entailed.{Constraint}
 use Rattle.type_rules.specs.declared.TypeKind.TheVariants.{Cycle, Mismatch}
 use Rattle.type_rules.specs.declared.TypeStop.{TypeStop}
 use Rattle.type_rules.specs.declared.TypeStop.TheVariants.{Fault, OutOfMemory}
-use Rattle.type_rules.specs.Typing.{Scope, Setting, CodeHas}
+use Rattle.type_rules.specs.Typing.{VarTypes, Context, CodeHas}
 use Rattle.type_rules.specs.Nodes.{parameter, code_sites}
 use Rattle.type_rules.specs.Answers.{CodeAnswer}
 use Rattle.type_rules.specs.Typable.{setting_of, RoutineTyped, Part, a_pair, a_site, a_routine, pair_parts, routine_parts, routines_parts, parts, PartTyped, FirstPartFault}
@@ -90,7 +90,7 @@ module _ (p : Tree) where
       subst (PartsStop p (pair_parts 0 p.declared)) (sym s) (first_cycle 0 p.declared i (read_pair d) few there (subst (Closes (pairs_of p)) zero_more c.closes) (λ j l. c.first j (omega (arith, l))))
 
   -- what the check of a body says of a procedure or main
-  pub routine_answer : (f : Routine) (s : Setting) (G : Scope) (result : Result Shared TypeStop) → s ≡ setting_of p f → G ≡ f.declares.params → CodeAnswer s G f.declares.own f.body result → RoutineAnswer p f result
+  pub routine_answer : (f : Routine) (s : Context) (G : VarTypes) (result : Result Shared TypeStop) → s ≡ setting_of p f → G ≡ f.declares.params → CodeAnswer s G f.declares.own f.body result → RoutineAnswer p f result
   routine_answer f s G result e g h = cases result (subst (λ x. CodeAnswer x f.declares.params f.declares.own f.body result) e (subst (λ H. CodeAnswer s H f.declares.own f.body result) g h))
     where
       cases : (result : Result Shared TypeStop) → CodeAnswer (setting_of p f) f.declares.params f.declares.own f.body result → RoutineAnswer p f result
@@ -131,7 +131,7 @@ pub signatures : (fs : List Proc) → map read_sig fs ≡ map (λ (g : Routine).
 signatures [] = refl
 signatures (f ∷ fs) = ap (read_sig f ∷◌) (signatures fs)
 
-pub same_setting : (s : Setting) (pairs : List Pair) (procs : List Signature) (given : List Constraint) → s.pairs ≡ pairs → s.procs ≡ procs → s.given ≡ given → s ≡ record { pairs = pairs; procs = procs; given = given }
+pub same_setting : (s : Context) (pairs : List Pair) (procs : List Signature) (given : List Constraint) → s.pairs ≡ pairs → s.procs ≡ procs → s.given ≡ given → s ≡ record { pairs = pairs; procs = procs; given = given }
 same_setting s pairs procs given a b c = ap₂ (λ xs ys. record { pairs = xs; procs = ys; given = s.given }) a b ∙ ap (λ zs. record { pairs = pairs; procs = procs; given = zs }) c
 
 -- pairs between declared priorities

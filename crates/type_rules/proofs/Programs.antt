@@ -7,7 +7,7 @@ use Rattle.priml_syntax.specs.Tree.{Type'}
 use Rattle.priority_order.specs.Order.{Closes}
 use Rattle.priority_order.proofs.Build.{unlawful}
 use Rattle.type_rules.specs.declared.TypeKind.{TypeKind}
-use Rattle.type_rules.specs.Typing.{Scope, Setting, CodeHas}
+use Rattle.type_rules.specs.Typing.{VarTypes, Context, CodeHas}
 use Rattle.type_rules.specs.Nodes.{parameter, Extends, code_sites, FirstFault}
 use Rattle.type_rules.specs.Typable.{setting_of, RoutineTyped, Typable, Part, a_pair, a_site, a_routine, pair_parts, routine_parts, routines_parts, parts, PartTyped, PartFails, FirstPartFault, HasTypeFault}
 use Rattle.priml_syntax.specs.Tree.{Routine, Declared, Tree, pairs_of}
@@ -16,10 +16,10 @@ use Rattle.type_rules.proofs.Sites.{code_typed}
 use Rattle.type_rules.proofs.Refutes.{fault_untyped}
 
 -- parameters make the scope of their types
-pub params_extend : (s : Setting) (G : Scope) (Ts : List Type') → Extends s G (map parameter Ts) (G ++ Ts)
+pub params_extend : (s : Context) (G : VarTypes) (Ts : List Type') → Extends s G (map parameter Ts) (G ++ Ts)
 params_extend s G [] = append_none G
   where
-    append_none : (xs : Scope) → xs ++ [] ≡ xs
+    append_none : (xs : VarTypes) → xs ++ [] ≡ xs
     append_none [] = refl
     append_none (x ∷ xs) = ap (x ∷◌) (append_none xs)
 params_extend s G (T ∷ Ts) = (T, refl, subst (λ H. Extends s (G ++ T ∷ []) (map parameter Ts) H) (append_assoc G (T ∷ []) Ts) (params_extend s (G ++ T ∷ []) Ts))

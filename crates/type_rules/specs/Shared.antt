@@ -5,14 +5,14 @@ use Rattle.type_rules.specs.declared.shared.Shared.{Shared}
 use Rattle.type_rules.specs.declared.shared.Shared.TheVariants as shared
 use Rattle.type_rules.specs.declared.shared.Shape.{Shape}
 use Rattle.type_rules.specs.declared.shared.Shape.TheVariants as shape
-use Rattle.type_rules.specs.Typing.{type_at}
+use Rattle.type_rules.specs.Typing.{subst_type}
 
 -- a written type stands under the priorities of a call; who else has a part plays no role
 abbrev pub read_shared : Shared → Type'
 read_shared shared.Unit = unit
 read_shared shared.Bool = bool
 read_shared shared.Int = int
-read_shared (shared.Written ps t) = type_at ps.now (read_type t.now)
+read_shared (shared.Written ps t) = subst_type ps.now (read_type t.now)
 read_shared (shared.Pair' p a b) = pair (read_shared a) (read_shared b)
 read_shared (shared.Sum' p a b) = sum (read_shared a) (read_shared b)
 read_shared (shared.Thread' r p a) = thread r (read_shared a)

@@ -6,11 +6,11 @@ use Rattle.priml_syntax.specs.Scoped.{IsScoped}
 use Rattle.priority_order.specs.Order.{IsLawful, Closes}
 use Rattle.type_rules.specs.declared.TypeKind.{TypeKind}
 use Rattle.type_rules.specs.declared.TypeKind.TheVariants.{Cycle, Mismatch}
-use Rattle.type_rules.specs.Typing.{Setting, CodeHas}
+use Rattle.type_rules.specs.Typing.{Context, CodeHas}
 use Rattle.type_rules.specs.Nodes.{parameter, Site, code_sites, IsTyped, HasFault, place}
 
 -- what the typing of a procedure or main stands on
-abbrev pub setting_of : Tree → Routine → Setting
+abbrev pub setting_of : Tree → Routine → Context
 setting_of p f = record { pairs = pairs_of p; procs = map (λ (g : Routine). g.declares) p.procs; given = f.declares.given }
 
 -- the body has the declared result type at the own priority

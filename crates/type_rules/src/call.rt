@@ -1,7 +1,7 @@
 ghost use Rattle.std.specs.Prelude.{◌≡◌, ◌<◌, map, length, MatchResult, IsTrue, ◌↔◌};
 ghost use Rattle.priml_syntax.specs.Tree.{call};
 ghost use Rattle.priml_syntax.specs.Read.{read_sig, read_type, read_term, read_form};
-ghost use Rattle.type_rules.specs.Typing.{HaveTypes, AllInScope, at_prios, type_at};
+ghost use Rattle.type_rules.specs.Typing.{HaveTypes, AllInScope, subst_prio, subst_type};
 ghost use Rattle.type_rules.specs.Shared.{read_shared};
 ghost use Rattle.type_rules.specs.Answers.{setting, scope_of, ActAnswer, TermsStop};
 ghost use Rattle.type_rules.specs.Calls.{GivenAnswer};
@@ -67,7 +67,7 @@ fn types_of<'p>(
 
 // Whether the types are those of the parameters under the priorities.
 fn are_instances(types: &[Shared<'_>], ps: &[Prio], params: &[Ty]) -> bool
-    ensures { IsTrue result ↔ (map read_shared types.now ≡ map (type_at ps.now) (map read_type params.now)) }
+    ensures { IsTrue result ↔ (map read_shared types.now ≡ map (subst_type ps.now) (map read_type params.now)) }
 {
     if types.len() != params.len() {
         return false;

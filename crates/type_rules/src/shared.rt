@@ -2,7 +2,7 @@ ghost use Rattle.std.specs.Prelude.{◌≡◌, ◌↔◌, IsTrue, IfOk, ◌-◌,
 ghost use Rattle.priml_syntax.specs.Tree.{unit, int, pair, sum, thread};
 ghost use Rattle.priml_syntax.specs.Read.{read_type};
 ghost use Rattle.priml_syntax.specs.Size.{type_nodes};
-ghost use Rattle.type_rules.specs.Typing.{at_prios, type_at};
+ghost use Rattle.type_rules.specs.Typing.{subst_prio, subst_type};
 ghost use Rattle.type_rules.specs.Shared.{read_shared, read_shape};
 
 use priml_syntax::{Prio, Ty};
@@ -124,7 +124,7 @@ impl<'p> Shared<'p> {
 
     // Whether it is the written type under the priorities.
     pub fn is(&self, ps: &[Prio], t: &Ty) -> bool
-        ensures { IsTrue result ↔ (read_shared self.now ≡ type_at ps.now (read_type t.now)) }
+        ensures { IsTrue result ↔ (read_shared self.now ≡ subst_type ps.now (read_type t.now)) }
     {
         match (self, t) {
             (Shared::Written(qs, u), _) => same_written(qs, u, ps, t),
@@ -163,7 +163,7 @@ impl<'p> Shared<'p> {
 }
 
 fn written_shape<'p>(ps: &'p [Prio], t: &'p Ty) -> Shape<'p>
-    ensures { read_shape result ≡ type_at ps.now (read_type t.now) }
+    ensures { read_shape result ≡ subst_type ps.now (read_type t.now) }
 {
     match t {
         Ty::Unit => Shape::Unit,
@@ -177,7 +177,7 @@ fn written_shape<'p>(ps: &'p [Prio], t: &'p Ty) -> Shape<'p>
 
 // Whether two written types are the same, each under its priorities.
 fn same_written(ps: &[Prio], t: &Ty, qs: &[Prio], u: &Ty) -> bool
-    ensures { IsTrue result ↔ (type_at ps.now (read_type t.now) ≡ type_at qs.now (read_type u.now)) }
+    ensures { IsTrue result ↔ (subst_type ps.now (read_type t.now) ≡ subst_type qs.now (read_type u.now)) }
 {
     match (t, u) {
         (Ty::Unit, Ty::Unit) => true,
@@ -194,7 +194,7 @@ fn same_written(ps: &[Prio], t: &Ty, qs: &[Prio], u: &Ty) -> bool
 
 // A priority with priorities for its variables.
 pub fn at_prio(ps: &[Prio], p: Prio) -> Prio
-    ensures { result ≡ at_prios ps.now p }
+    ensures { result ≡ subst_prio ps.now p }
 {
     match p {
         Prio::Const(a) => Prio::Const(a),

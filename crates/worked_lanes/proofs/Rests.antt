@@ -1,7 +1,7 @@
 -- When tasks are at rest.
 use Rattle.std.proofs.Common.{◌≡◌, None, false, sym, ◌∙◌, subst}
 use Rattle.type_rules.specs.Jobs.{WithInputs}
-use Rattle.core_steps.specs.Moves.{job_of}
+use Rattle.core_steps.specs.Moves.{read_job}
 use Rattle.core_steps.specs.Steps.{Job}
 use Rattle.task_state.specs.Tasks.{TaskFields, IsStart, OfJob, has_ended}
 use Rattle.task_state.specs.Segments.{IsHandedOut}
@@ -16,5 +16,5 @@ pub handed_rests : (job : Job) (t t' : TaskFields) → OfJob job t' → has_ende
 handed_rests job t t' task live unfed h = record { task = task; live = h.ended ∙ live; pending = h.pending; unfed = h.fed ∙ unfed }
 
 -- of the same job
-pub rests_as : (job now : WithInputs) → job ≡ now → (t : TaskFields) → IsAtRest (job_of now) t → IsAtRest (job_of job) t
-rests_as job now e t r = subst (λ (j : WithInputs). IsAtRest (job_of j) t) (sym e) r
+pub rests_as : (job now : WithInputs) → job ≡ now → (t : TaskFields) → IsAtRest (read_job now) t → IsAtRest (read_job job) t
+rests_as job now e t r = subst (λ (j : WithInputs). IsAtRest (read_job j) t) (sym e) r

@@ -1,7 +1,7 @@
 //! The worked case of lanes: in both forms, and in the stealing form by the calls without a runtime too.
 ghost use Rattle.std.specs.Prelude.{◌≡◌, IfOk, length};
 ghost use Rattle.std.specs.List.{All};
-ghost use Rattle.core_steps.specs.Moves.{job_of as the_job};
+ghost use Rattle.core_steps.specs.Moves.{read_job as the_job};
 ghost use Rattle.task_state.specs.Tasks.{read_task};
 ghost use Rattle.priority_deques.specs.EndBooks.{steal_job};
 ghost use Rattle.priority_deques.specs.Tasks.{IsAtRest};

@@ -1,6 +1,6 @@
 //! Tasks at rest.
 ghost use Rattle.std.specs.Prelude.{◌≡◌, IfOk, IfSome};
-ghost use Rattle.core_steps.specs.Moves.{job_of as the_job};
+ghost use Rattle.core_steps.specs.Moves.{read_job as the_job};
 ghost use Rattle.task_state.specs.Tasks.{read_task};
 ghost use Rattle.priority_deques.specs.EndBooks.{steal_job};
 ghost use Rattle.priority_deques.specs.Tasks.{IsAtRest};

@@ -1,7 +1,7 @@
 //! Four workers over stealing lanes.
 ghost use Rattle.std.specs.Prelude.{◌≡◌, ◌<◌, ◌^◌, true};
 ghost use Rattle.std.specs.List.{All};
-ghost use Rattle.core_steps.specs.Moves.{job_of as the_job};
+ghost use Rattle.core_steps.specs.Moves.{read_job as the_job};
 ghost use Rattle.task_state.specs.Tasks.{read_task};
 ghost use Rattle.priority_deques.specs.EndBooks.{steal_job};
 ghost use Rattle.priority_deques.specs.Tasks.{IsAtRest};

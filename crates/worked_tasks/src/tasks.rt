@@ -1,6 +1,6 @@
 //! Two tasks, turn by turn.
 ghost use Rattle.std.specs.Prelude.{OnOk};
-ghost use Rattle.core_steps.specs.Moves.{job_of as the_job};
+ghost use Rattle.core_steps.specs.Moves.{read_job as the_job};
 ghost use Rattle.trace_book.specs.Segments.{read_segment};
 ghost use Rattle.task_state.specs.Segments.{IsSegmentOf};
 ghost use Rattle.task_state.specs.Tasks.{read_task};

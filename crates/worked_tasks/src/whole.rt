@@ -1,6 +1,6 @@
 //! A whole job by tasks, beside its serial meaning.
 ghost use Rattle.std.specs.Prelude.{OnOk, map};
-ghost use Rattle.core_steps.specs.Moves.{job_of as the_job};
+ghost use Rattle.core_steps.specs.Moves.{read_job as the_job};
 ghost use Rattle.priml_syntax.specs.Read.{read_record};
 ghost use Rattle.task_state.specs.Tasks.{read_task};
 ghost use Rattle.worked_tasks.specs.Idle.{AreMeant, IsIdle};

@@ -19,7 +19,7 @@ returns-clause-memory g c =
       | in-Err w ↦
           let status : w.no_memory.result ≡ exit_status c.from.result = search rules in
           if_err _ c.args.words _ w.in-Err.is (λ k.
-            subst (λ s. Wrote (sink_run (g.K.Sink.written c.args.sink.now) (g.K.Sink.written s) (g.K.Sink.faults c.args.sink.now) (g.K.Sink.faults s)) 10 memory_line (exit_status c.from.result))
-              (sym w.sink-is) (subst (Wrote _ 10 memory_line) status w.no_memory.ensures))
+          subst (λ s. Wrote (sink_run (g.K.Sink.written c.args.sink.now) (g.K.Sink.written s) (g.K.Sink.faults c.args.sink.now) (g.K.Sink.faults s)) 10 memory_line (exit_status c.from.result))
+          (sym w.sink-is) (subst (Wrote _ 10 memory_line) status w.no_memory.ensures))
       | in-Err-2 w ↦ if_err _ c.args.words _ w.in-Err.is (λ k. search rules)
     ]

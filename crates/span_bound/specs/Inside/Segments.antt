@@ -21,7 +21,7 @@ abbrev pub IsIn : List ℕ → List ℕ → ℕ → ℕ → Type 0
 IsIn heads lens s v = (get_or heads s 0 ≤ v) × (v < get_or heads s 0 + get_or lens s 0)
 
 -- each vertex stands in one segment, its slot, and those from which edges lead to a segment's first vertex stand in earlier ones
-pub record IsCut (g : CostGraph) (heads lens slots : List ℕ) : Type 0 where
+pub record AreSegmentsOf (g : CostGraph) (heads lens slots : List ℕ) : Type 0 where
   pub long : length lens ≡ length heads
   pub covers : length slots ≡ vertex_total g
   pub few : length heads ≤ vertex_total g
@@ -33,7 +33,7 @@ pub record IsCut (g : CostGraph) (heads lens slots : List ℕ) : Type 0 where
   pub earlier : (s p : ℕ) → s < length heads → Edge g p (get_or heads s 0) → get_or slots p 0 < s
 
 -- the same for the first k vertices of an order
-pub record IsCutSoFar (g : CostGraph) (order : List ℕ) (k : ℕ) (heads lens slots : List ℕ) : Type 0 where
+pub record AreSegmentsOfFirst (g : CostGraph) (order : List ℕ) (k : ℕ) (heads lens slots : List ℕ) : Type 0 where
   pub long : length lens ≡ length heads
   pub covers : length slots ≡ vertex_total g
   pub few : length heads ≤ k
@@ -57,7 +57,7 @@ last_of heads lens s = get_or heads s 0 + get_or lens s 0 - 1
 
 -- the segments, with those from which edges lead to the first vertex of each, and those to which edges lead from its last
 pub record AreSegments (g : CostGraph) (c : Segments) : Type 0 where
-  pub cut : IsCut g c.heads.items c.lens.items c.slots.items
+  pub cut : AreSegmentsOf g c.heads.items c.lens.items c.slots.items
   pub parents_cover : length c.parents.items ≡ length c.heads.items
   pub children_cover : length c.children.items ≡ length c.heads.items
   pub parents : (s : ℕ) → s < length c.heads.items → get_or (lists c.parents.items) s [] ≡ images c.slots.items (parents_at g (get_or c.heads.items s 0))

@@ -10,8 +10,8 @@ use Rattle.priml.proofs.flaw.write_dotted.Goals as goal
 next : (numbers : List ℕ) (i : ℕ) → i < length numbers → drop i numbers ≡ slice_index numbers i ∷ drop (i + 1) numbers
 next numbers i lt = grind (arith, common_steps)
 
-split : (numbers front : List ℕ) (i : ℕ) → i < length numbers → front ++ flat_map dotted (drop i numbers) ≡ flat_map dotted numbers → front ++ (dotted (slice_index numbers i) ++ flat_map dotted (drop (i + 1) numbers)) ≡ flat_map dotted numbers
-split numbers front i lt e = ap (λ xs. front ++ flat_map dotted xs) (sym (next numbers i lt)) ∙ e
+split : (numbers prefix : List ℕ) (i : ℕ) → i < length numbers → prefix ++ flat_map dotted (drop i numbers) ≡ flat_map dotted numbers → prefix ++ (dotted (slice_index numbers i) ++ flat_map dotted (drop (i + 1) numbers)) ≡ flat_map dotted numbers
+split numbers prefix i lt e = ap (λ xs. prefix ++ flat_map dotted xs) (sym (next numbers i lt)) ∙ e
 
 pub returns-in_err-write_marked-clause-bytes : goal.returns-in_err-write_marked-clause-bytes
 returns-in_err-write_marked-clause-bytes g c =

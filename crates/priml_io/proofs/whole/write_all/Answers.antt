@@ -3,8 +3,8 @@ use Rattle.std.proofs.lemmas.Grind.{common_steps}
 use Rattle.priml_io.proofs.Joins.{grows_joined}
 use Rattle.priml_io.proofs.whole.write_all.Goals as goal
 
-moved : (piece front rest : List ℕ) (n : ℕ) → piece ≡ front ++ rest → n ≤ length rest → piece ≡ (front ++ take n rest) ++ take (length rest - n) (drop n rest)
-moved piece front rest n e l = grind (arith, common_steps, append_assoc)
+moved : (piece prefix rest : List ℕ) (n : ℕ) → piece ≡ prefix ++ rest → n ≤ length rest → piece ≡ (prefix ++ take n rest) ++ take (length rest - n) (drop n rest)
+moved piece prefix rest n e l = grind (arith, common_steps, append_assoc)
 
 pub loop-rest-preserved : goal.loop-rest-preserved
 loop-rest-preserved g c =

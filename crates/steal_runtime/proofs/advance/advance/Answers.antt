@@ -1,6 +1,6 @@
 use Rattle.std.proofs.Common.{rules, ◌≡◌, ℕ, ◌<◌, List, [], ◌∷◌, length, length-append, true, sym, ap, subst, arith}
 use Rattle.priml_syntax.specs.declared.event.Event.TheVariants.{Spawn}
-use Rattle.core_steps.specs.Moves.{job_of}
+use Rattle.core_steps.specs.Moves.{read_job}
 use Rattle.core_steps.specs.Steps.{Job}
 use Rattle.task_state.specs.Tasks.{OfJob, read_task}
 use Rattle.task_state.specs.Turns.{Halts, IsLastChild}
@@ -14,11 +14,11 @@ use Rattle.steal_runtime.proofs.advance.advance.Goals as goal
 
 pub settle-requires-clause-steps : goal.settle-requires-clause-steps
 settle-requires-clause-steps g c = let turn = c.run.ensures.turn in
-    (turn.few, turn_joins (the_job (about c.args.board.now)) (job_of c.args.job.now) (knows c.args.seat.now) (read_task c.args.task) (read_task c.run.new.self) c.args.duty.quantum c.requires.task turn)
+    (turn.few, turn_joins (the_job (about c.args.board.now)) (read_job c.args.job.now) (knows c.args.seat.now) (read_task c.args.task) (read_task c.run.new.self) c.args.duty.quantum c.requires.task turn)
 
 pub enroll-requires-clause-thread : goal.enroll-requires-clause-thread
 enroll-requires-clause-thread g c = let b = c.args.board.now in let job = the_job (about b) in let u = read_task c.run.new.self in let child = read_task c.in-Spawned.child in
-    let h = subst (Halts (job_of c.args.job.now) c.args.duty.quantum u) c.in-Spawned.is c.in_ok-halt.ensures.halt in
+    let h = subst (Halts (read_job c.args.job.now) c.args.duty.quantum u) c.in-Spawned.is c.in_ok-halt.ensures.halt in
     let last : IsLastChild job u child = subst (λ (j : Job). IsLastChild j u child) (sym c.requires.duty.0) h.2 in
     let of : OfJob job u = subst (λ (j : Job). OfJob j u) (sym c.requires.duty.0) c.run.ensures.turn.task in
     let long : 0 < length u.pending = (let e = ap length h.0.1 in let l = length-append h.0.0 (Spawn ∷ []) in omega (arith, e, l)) in

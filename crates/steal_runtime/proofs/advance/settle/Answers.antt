@@ -1,6 +1,6 @@
 use Rattle.std.proofs.Common.{sym, subst, IfSome}
 use Rattle.std.specs.List.{All}
-use Rattle.core_steps.specs.Moves.{job_of}
+use Rattle.core_steps.specs.Moves.{read_job}
 use Rattle.core_steps.specs.Steps.{Job}
 use Rattle.trace_book.specs.Segments.{read_segment}
 use Rattle.task_state.specs.declared.task.Task.{Task}

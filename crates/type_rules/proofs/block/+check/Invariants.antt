@@ -5,7 +5,7 @@ use Rattle.priml_syntax.specs.declared.block.Tail.{size-Tail}
 use Rattle.priml_syntax.specs.Read.{read_tail}
 use Rattle.priml_syntax.specs.Lists.{body_of}
 use Rattle.type_rules.specs.Typing.{BodyInScope}
-use Rattle.type_rules.specs.Answers.{Leads, setting, scope_of}
+use Rattle.type_rules.specs.Answers.{CarriesOn, setting, scope_of}
 use Rattle.type_rules.proofs.block.+check.Given as goal
 
 abbrev pub decreases-type_of_action : goal.decreases-type_of_action
@@ -27,5 +27,5 @@ invariant-type_of_block-loop-bind l =
       deep : l.depth ≤ length l.scope.items;
       kept : take l.depth l.scope.items ≡ l.initial.scope.items;
       in_scope : BodyInScope (body_of (drop l.bind-index l.bind-items) tail) (length l.procs) (length l.scope.items);
-      leads : Leads (setting l.known l.procs) l.r (scope_of l.scope.items) (body_of (drop l.bind-index l.bind-items) tail) (scope_of l.initial.scope.items) (body_of l.bind-items tail);
+      leads : CarriesOn (setting l.known l.procs) l.r (scope_of l.scope.items) (body_of (drop l.bind-index l.bind-items) tail) (scope_of l.initial.scope.items) (body_of l.bind-items tail);
     }

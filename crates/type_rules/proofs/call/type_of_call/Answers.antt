@@ -4,7 +4,7 @@ use Rattle.std.specs.List.{All, Contains}
 use Rattle.constraint_proof.specs.Entailed.{Constraint, Entailed}
 use Rattle.priml_syntax.specs.Read.{read_type, read_term}
 use Rattle.type_rules.specs.Shared.{read_shared}
-use Rattle.type_rules.specs.Typing.{type_at, at_prios}
+use Rattle.type_rules.specs.Typing.{subst_type, subst_prio}
 use Rattle.priml_syntax.specs.Read.{read_sig}
 use Rattle.type_rules.specs.Answers.{setting, scope_of}
 use Rattle.type_rules.proofs.Arguments.{sig_at, stop_arity, stop_mismatch, stop_wrong, stop_constraint, call_fits}
@@ -32,14 +32,14 @@ returns-then-not-are_instances c =
     let long = as_long read_term read_type c.args.es.now c.if-es-params.false c.as_slice-params.ensures.value in
     stop_mismatch (setting c.args.known.now c.args.procs.now) (scope_of c.args.scope.now) c.args.r (read_sig c.index-procs-f.result) c.args.ps.now (map read_term c.args.es.now) c.args.f c.args.at is (map read_shared c.in_ok-types.types.items) c.in_ok-types.ensures c.if-ps-sig.false long
     (λ e. failed c.are_instances.result c.if-not-are_instances.true c.are_instances.ensures.1
-    (ap (map read_shared) c.as_slice.ensures.value ∙ e ∙ sym (ap (λ xs. map (type_at c.args.ps.now) (map read_type xs)) c.as_slice-params.ensures.value)))
+    (ap (map read_shared) c.as_slice.ensures.value ∙ e ∙ sym (ap (λ xs. map (subst_type c.args.ps.now) (map read_type xs)) c.as_slice-params.ensures.value)))
     c.fault-then-not-are_instances.result c.fault-then-not-are_instances.ensures
 
 pub returns-then-not-same_prio : goal.returns-then-not-same_prio
 returns-then-not-same_prio c =
     let is = sig_at c.args.procs.now c.args.f c.index-procs-f.result c.requires.known_call c.index-procs-f.is in
     let long = as_long read_term read_type c.args.es.now c.if-es-params.false c.as_slice-params.ensures.value in
-    let fit = as_read read_shared read_type (type_at c.args.ps.now) c.as_slice.ensures.value (c.are_instances.ensures.0 c.if-not-are_instances.false) c.as_slice-params.ensures.value in
+    let fit = as_read read_shared read_type (subst_type c.args.ps.now) c.as_slice.ensures.value (c.are_instances.ensures.0 c.if-not-are_instances.false) c.as_slice-params.ensures.value in
     stop_wrong (setting c.args.known.now c.args.procs.now) (scope_of c.args.scope.now) c.args.r (read_sig c.index-procs-f.result) c.args.ps.now (map read_term c.args.es.now) c.args.f c.args.at is (map read_shared c.in_ok-types.types.items) c.in_ok-types.ensures c.if-ps-sig.false long fit
     (λ e. failed c.same_prio.result c.if-not-same_prio.true c.same_prio.ensures.1 (c.at_prio.ensures ∙ e))
     c.fault-then-not-same_prio.result c.fault-then-not-same_prio.ensures
@@ -48,7 +48,7 @@ pub returns-then-not-all_hold : goal.returns-then-not-all_hold
 returns-then-not-all_hold c =
     let is = sig_at c.args.procs.now c.args.f c.index-procs-f.result c.requires.known_call c.index-procs-f.is in
     let long = as_long read_term read_type c.args.es.now c.if-es-params.false c.as_slice-params.ensures.value in
-    let fit = as_read read_shared read_type (type_at c.args.ps.now) c.as_slice.ensures.value (c.are_instances.ensures.0 c.if-not-are_instances.false) c.as_slice-params.ensures.value in
+    let fit = as_read read_shared read_type (subst_type c.args.ps.now) c.as_slice.ensures.value (c.are_instances.ensures.0 c.if-not-are_instances.false) c.as_slice-params.ensures.value in
     let own = sym c.at_prio.ensures ∙ c.same_prio.ensures.0 c.if-not-same_prio.false in
     let w = c.if-not-all_hold.ensures in
     stop_constraint (setting c.args.known.now c.args.procs.now) (scope_of c.args.scope.now) c.args.r (read_sig c.index-procs-f.result) c.args.ps.now (map read_term c.args.es.now) c.args.f c.args.at is (map read_shared c.in_ok-types.types.items) c.in_ok-types.ensures c.if-ps-sig.false long fit own
@@ -59,11 +59,11 @@ pub returns : goal.returns
 returns c =
     let is = sig_at c.args.procs.now c.args.f c.index-procs-f.result c.requires.known_call c.index-procs-f.is in
     let long = as_long read_term read_type c.args.es.now c.if-es-params.false c.as_slice-params.ensures.value in
-    let fit = as_read read_shared read_type (type_at c.args.ps.now) c.as_slice.ensures.value (c.are_instances.ensures.0 c.if-not-are_instances.false) c.as_slice-params.ensures.value in
+    let fit = as_read read_shared read_type (subst_type c.args.ps.now) c.as_slice.ensures.value (c.are_instances.ensures.0 c.if-not-are_instances.false) c.as_slice-params.ensures.value in
     let own = sym c.at_prio.ensures ∙ c.same_prio.ensures.0 c.if-not-same_prio.false in
     let k = c.args.known.now in
     call_fits (setting c.args.known.now c.args.procs.now) (scope_of c.args.scope.now) c.args.r (read_sig c.index-procs-f.result) c.args.ps.now (map read_term c.args.es.now) c.args.f c.args.at is (map read_shared c.in_ok-types.types.items) c.in_ok-types.ensures c.if-ps-sig.false long fit own
-    (subst (λ xs. All (λ (d : Constraint). Entailed k.pairs k.given (at_prios c.args.ps.now d.0) (at_prios c.args.ps.now d.1)) xs) c.as_slice-2.ensures.value c.if-not-all_hold.ensures) _ refl
+    (subst (λ xs. All (λ (d : Constraint). Entailed k.pairs k.given (subst_prio c.args.ps.now d.0) (subst_prio c.args.ps.now d.1)) xs) c.as_slice-2.ensures.value c.if-not-all_hold.ensures) _ refl
 
 pub returns-then-es-params : goal.returns-then-es-params
 returns-then-es-params c =

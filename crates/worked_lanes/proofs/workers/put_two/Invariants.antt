@@ -1,5 +1,5 @@
 use Rattle.std.proofs.Common.{◌≡◌}
-use Rattle.core_steps.specs.Moves.{job_of as the_job}
+use Rattle.core_steps.specs.Moves.{read_job as the_job}
 use Rattle.task_state.specs.Tasks.{read_task}
 use Rattle.priority_deques.specs.EndBooks.{steal_job}
 use Rattle.priority_deques.specs.Tasks.{IsAtRest}

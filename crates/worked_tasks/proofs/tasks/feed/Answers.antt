@@ -1,7 +1,7 @@
 use Rattle.std.proofs.Common.{rules, ◌≡◌, ◌∙◌, Some, ap, sym, subst}
 use Rattle.priml_syntax.specs.Read.{read_outcome}
 use Rattle.core_steps.specs.Determined.{EndsWith}
-use Rattle.core_steps.specs.Moves.{job_of}
+use Rattle.core_steps.specs.Moves.{read_job}
 use Rattle.trace_book.specs.Segments.{read_segment}
 use Rattle.task_state.specs.Tasks.{TaskFields, awaited_of, read_task}
 use Rattle.worked_tasks.proofs.Ends.{segment_ends}
@@ -9,7 +9,7 @@ use Rattle.worked_tasks.proofs.tasks.feed.Goals as goal
 
 pub returns-in-Some-outcome : goal.returns-in-Some-outcome
 returns-in-Some-outcome c =
-    let job = job_of c.args.job.now in
+    let job = read_job c.args.job.now in
     let b = c.in-Some.awaited.now in
     let same : b ≡ c.args.segment.path = search rules in
     let gave : c.args.segment.outcome ≡ Some c.in-Some-outcome.outcome = search rules in

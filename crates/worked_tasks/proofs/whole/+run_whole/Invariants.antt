@@ -1,4 +1,4 @@
-use Rattle.core_steps.specs.Moves.{job_of as the_job}
+use Rattle.core_steps.specs.Moves.{read_job as the_job}
 use Rattle.task_state.specs.Tasks.{read_task}
 use Rattle.worked_tasks.specs.Idle.{IsIdle}
 use Rattle.worked_tasks.proofs.whole.+run_whole.Given as goal

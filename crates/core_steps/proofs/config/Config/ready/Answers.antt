@@ -1,7 +1,7 @@
 use Rattle.std.proofs.Common.{map, sym, ◌∙◌, ap, subst}
 use Rattle.std.specs.Option.{is_some}
 use Rattle.core_steps.specs.Configs.{SlotsRise, outcome_of, read_slot, slot_at, slots_of}
-use Rattle.core_steps.specs.Moves.{job_of}
+use Rattle.core_steps.specs.Moves.{read_job}
 use Rattle.core_steps.proofs.Choices.{ready_none, ready_ended, ready_free, ready_awaits}
 use Rattle.core_steps.proofs.config.Config.ready.Goals as goal
 
@@ -13,19 +13,19 @@ has_ended-requires c = subst (λ xs. SlotsRise (map read_slot xs)) (sym c.deref-
 
 pub returns-in-Free : goal.returns-in-Free
 returns-in-Free c =
-    ready_free (job_of c.args.job.now) c.job_is_checked.ensures (slots_of c.args.self.now) c.args.path.now (read_slot c.in-Some.slot.now) c.requires
+    ready_free (read_job c.args.job.now) c.job_is_checked.ensures (slots_of c.args.self.now) c.args.path.now (read_slot c.in-Some.slot.now) c.requires
     (ap (λ xs. slot_at (map read_slot xs) c.args.path.now) (sym (c.deref.ensures.value ∙ c.self.view_is)) ∙ sym c.in-Some.ensures) c.in-Free.ensures
 
 pub returns-in-Awaits : goal.returns-in-Awaits
 returns-in-Awaits c =
-    ready_awaits (job_of c.args.job.now) (slots_of c.args.self.now) c.args.path.now c.in-Awaits.awaited.now (read_slot c.in-Some.slot.now) c.has_ended.result
+    ready_awaits (read_job c.args.job.now) (slots_of c.args.self.now) c.args.path.now c.in-Awaits.awaited.now (read_slot c.in-Some.slot.now) c.has_ended.result
     (ap (λ xs. slot_at (map read_slot xs) c.args.path.now) (sym (c.deref.ensures.value ∙ c.self.view_is)) ∙ sym c.in-Some.ensures) c.in-Awaits.ensures
     (c.has_ended.ensures ∙ ap (λ xs. is_some (outcome_of (slot_at (map read_slot xs) c.in-Awaits.awaited.now))) (c.deref-in-Awaits.ensures.value ∙ c.self.view_is))
 
 pub returns-in-Ended : goal.returns-in-Ended
 returns-in-Ended c =
-    ready_ended (job_of c.args.job.now) (slots_of c.args.self.now) c.args.path.now (read_slot c.in-Some.slot.now)
+    ready_ended (read_job c.args.job.now) (slots_of c.args.self.now) c.args.path.now (read_slot c.in-Some.slot.now)
     (ap (λ xs. slot_at (map read_slot xs) c.args.path.now) (sym (c.deref.ensures.value ∙ c.self.view_is)) ∙ sym c.in-Some.ensures) c.in-Ended.ensures
 
 pub returns-in-None : goal.returns-in-None
-returns-in-None c = ready_none (job_of c.args.job.now) (slots_of c.args.self.now) c.args.path.now (ap (λ xs. slot_at (map read_slot xs) c.args.path.now) (sym (c.deref.ensures.value ∙ c.self.view_is)) ∙ sym c.in-None.ensures)
+returns-in-None c = ready_none (read_job c.args.job.now) (slots_of c.args.self.now) c.args.path.now (ap (λ xs. slot_at (map read_slot xs) c.args.path.now) (sym (c.deref.ensures.value ∙ c.self.view_is)) ∙ sym c.in-None.ensures)

@@ -3,13 +3,13 @@ use Rattle.std.specs.Option.{option_map}
 use Rattle.priml_syntax.specs.Read.{read_outcome, read_value}
 use Rattle.core_steps.specs.Fields.{read_boxed, read_local}
 use Rattle.priml_syntax.specs.Values.{returned}
-use Rattle.core_steps.specs.Moves.{CanStep, Goes, job_of, bound_in}
+use Rattle.core_steps.specs.Moves.{CanStep, Goes, read_job, bound_in}
 use Rattle.core_steps.proofs.StepRows.{made, join_row}
 use Rattle.core_steps.proofs.local.Local.join_thread.Goals as goal
 
 pub returns-in_ok-bind-in-Value-clause-goes : goal.returns-in_ok-bind-in-Value-clause-goes
 returns-in_ok-bind-in-Value-clause-goes c =
-    let job = job_of c.args.job.now in
+    let job = read_job c.args.job.now in
     let l = read_local c.args.self.now in
     let is : read_outcome c.args.outcome.now ≡ returned (read_value c.in-Value.value) = ap read_outcome c.in-Value.is in
     subst (λ o. Goes job l (Some o) c.without_child.result.event (option_map read_boxed c.without_child.result.child) (read_local c.bind.new.self)) (sym is)

@@ -3,11 +3,11 @@ use Rattle.std.proofs.lemmas.List.{take-append-drop, drop-drop}
 use Rattle.std.proofs.lemmas.Grind.{common_steps}
 use Rattle.priml_io.proofs.memory.MemSourceSource.take.Goals as goal
 
-front : (all now more : List ℕ) (at n : ℕ) → at + n ≤ length all → now ≡ take n (drop at all) → take n (now ++ more) ≡ take n (drop at all)
-front all now more at n l e = let q : length now ≡ n = rw e (simp (length-take, length-drop) (omega arith)) in grind (arith, common_steps)
+prefix : (all now more : List ℕ) (at n : ℕ) → at + n ≤ length all → now ≡ take n (drop at all) → take n (now ++ more) ≡ take n (drop at all)
+prefix all now more at n l e = let q : length now ≡ n = rw e (simp (length-take, length-drop) (omega arith)) in grind (arith, common_steps)
 
 given : (all more now : List ℕ) (at n : ℕ) → at + n ≤ length all → now ≡ take n (drop at all) → drop at all ≡ take n (now ++ more) ++ drop (at + n) all
-given all more now at n l e = rw (front all now more at n l e) (sym (take-append-drop n (drop at all)) ∙ ap (λ v. take n (drop at all) ++ v) (drop-drop n at all))
+given all more now at n l e = rw (prefix all now more at n l e) (sym (take-append-drop n (drop at all)) ∙ ap (λ v. take n (drop at all) ++ v) (drop-drop n at all))
 
 nothing : (all : List ℕ) (at : ℕ) → length all ≤ at → drop at all ≡ []
 nothing all at l = grind (arith, common_steps)

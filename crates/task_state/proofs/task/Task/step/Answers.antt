@@ -4,7 +4,7 @@ use Rattle.priml_syntax.specs.Read.{read_outcome}
 use Rattle.core_steps.specs.declared.local.Local.{Local}
 use Rattle.core_steps.specs.Fields.{read_local, state_of}
 use Rattle.core_steps.specs.Locals.{IsFed, IsLocal, awaited_at}
-use Rattle.core_steps.specs.Moves.{Goes, job_of}
+use Rattle.core_steps.specs.Moves.{Goes, read_job}
 use Rattle.core_steps.specs.Steps.{State, awaits}
 use Rattle.task_state.specs.Tasks.{read_task}
 use Rattle.task_state.proofs.States.{fed_of, local_of, not_over}
@@ -15,11 +15,11 @@ pub step-requires-clause-state : goal.step-requires-clause-state
 step-requires-clause-state c =
     let t = read_task c.args.self.now in
     let boxed : c.args.self.now.local.value ≡ c.deref_mut.result.now = search rules in
-    subst (λ (l : Local). IsLocal (job_of c.args.job.now) (read_local l)) boxed (local_of (job_of c.args.job.now) t c.requires.task (not_over t c.requires.live).0)
+    subst (λ (l : Local). IsLocal (read_job c.args.job.now) (read_local l)) boxed (local_of (read_job c.args.job.now) t c.requires.task (not_over t c.requires.live).0)
 
 pub step-requires-clause-fed : goal.step-requires-clause-fed
 step-requires-clause-fed c =
-    let job = job_of c.args.job.now in
+    let job = read_job c.args.job.now in
     let t = read_task c.args.self.now in
     let boxed : c.args.self.now.local.value ≡ c.deref_mut.result.now = search rules in
     subst (λ (l : Local). IsFed job (read_local l) (option_map read_outcome (option_copied c.as_ref.result))) boxed
@@ -27,7 +27,7 @@ step-requires-clause-fed c =
 
 pub returns-clause-ok : goal.returns-clause-ok
 returns-clause-ok c =
-    let job = job_of c.args.job.now in
+    let job = read_job c.args.job.now in
     let t = read_task c.args.self.now in
     let m = c.in_ok-moved.moved in
     let facts = c.in_ok-moved.ensures in

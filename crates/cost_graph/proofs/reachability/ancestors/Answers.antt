@@ -3,7 +3,7 @@ use Rattle.std.specs.List.{All}
 use Rattle.cost_graph.specs.Graph.{children_at}
 use Rattle.cost_graph.specs.Order.{HasWay}
 use Rattle.cost_graph.proofs.Above.{IsAbove, above_on, above_end, order_below, all_children_below}
-use Rattle.cost_graph.proofs.kin.ancestors.Goals as goal
+use Rattle.cost_graph.proofs.reachability.ancestors.Goals as goal
 
 pub children_of-requires : goal.children_of-requires
 children_of-requires c =

@@ -62,8 +62,8 @@ pub(crate) fn ancestors_of_each(
     let mut place = count;
     'places: while place > 0 {
         place -= 1;
-        let above = joined(&words, &own, &segments.children[place]);
-        words[place] = above;
+        let ancestor_marks = joined(&words, &own, &segments.children[place]);
+        words[place] = ancestor_marks;
     }
     Ok(words)
 }
@@ -90,8 +90,8 @@ pub(crate) fn descendants_of_each(
     let own = places_of(alloc, count as u32, &places)?;
     let mut words = vec![in alloc; 0u64; count]?;
     for place in 0..count {
-        let beneath = joined(&words, &own, &segments.parents[place]);
-        words[place] = beneath;
+        let descendant_marks = joined(&words, &own, &segments.parents[place]);
+        words[place] = descendant_marks;
     }
     Ok(words)
 }

@@ -4,7 +4,7 @@ use Rattle.cost_graph.specs.Graph.{parents_at}
 use Rattle.cost_graph.specs.Order.{HasWay}
 use Rattle.cost_graph.proofs.Visits.{parents_below}
 use Rattle.cost_graph.proofs.Above.{IsBeneath, beneath_on, beneath_end, order_below}
-use Rattle.cost_graph.proofs.kin.descendants.Goals as goal
+use Rattle.cost_graph.proofs.reachability.descendants.Goals as goal
 
 pub parents_of-requires : goal.parents_of-requires
 parents_of-requires c = order_below c.args.graph.now c.args.order.now c.loop-vertex.vertex-index c.requires.order c.loop-vertex-test.true

@@ -1,5 +1,5 @@
 use Rattle.cost_graph.proofs.Above.{IsAbove}
-use Rattle.cost_graph.proofs.kin.ancestors.Given as goal
+use Rattle.cost_graph.proofs.reachability.ancestors.Given as goal
 
 abbrev pub invariant-places : goal.invariant-places
 invariant-places l = IsAbove l.graph l.order l.target l.marks.items l.place

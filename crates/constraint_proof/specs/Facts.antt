@@ -34,10 +34,17 @@ in_out (Var v) = refl
 abbrev pub prio_code : Coded Prio
 prio_code = code_by (ℕ ⊎ ℕ) (coded⊎ coded_ℕ coded_ℕ) out_prio in_prio in_out
 
+-- pairs, and constraints, as numbers
+abbrev pub pairs_code : Coded (List Pair)
+pairs_code = coded_list (coded× coded_ℕ coded_ℕ)
+
+abbrev pub constraints_code : Coded (List Constraint)
+constraints_code = coded_list (coded× prio_code prio_code)
+
 -- count, pairs and constraints as numbers
 abbrev pub facts_code : Coded Facts
 facts_code =
-    code_by (ℕ × (List Pair × List Constraint)) (coded× coded_ℕ (coded× (coded_list (coded× coded_ℕ coded_ℕ)) (coded_list (coded× prio_code prio_code))))
+    code_by (ℕ × (List Pair × List Constraint)) (coded× coded_ℕ (coded× pairs_code constraints_code))
     (λ k. (k.count, (k.pairs, k.given))) (λ t. record { count = t.0; pairs = t.1.0; given = t.1.1 }) (λ _. refl)
 
 -- the closure is that of the declared pairs and the numbered constraints

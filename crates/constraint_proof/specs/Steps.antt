@@ -10,7 +10,8 @@ use Rattle.constraint_proof.specs.declared.derivation.Step.{Step}
 
 -- steps i and j stand before, the first leads from p to some priority, and the second from there to q
 abbrev pub Links : List Step → ℕ → ℕ → Prio → Prio → Type 0
-Links before i j p q = (x y : Step) × (slice_get before i ≡ Some x) × (slice_get before j ≡ Some y) × (x.left ≡ p) × (x.right ≡ y.left) × (y.right ≡ q)
+Links before i j p q =
+    (x y : Step) × (slice_get before i ≡ Some x) × (slice_get before j ≡ Some y) × (x.left ≡ p) × (x.right ≡ y.left) × (y.right ≡ q)
 
 -- the rule gives p at most q, from the steps before
 abbrev pub RuleFits : List Pair → List Constraint → List Step → Rule → Prio → Prio → Type 0

@@ -10,13 +10,15 @@ use Rattle.priml_syntax.specs.Values.{Outcome'}
 use Rattle.priml_syntax.specs.Paths.{same_path}
 use Rattle.core_steps.specs.declared.slot.Slot.{Slot}
 use Rattle.core_steps.specs.declared.local.Made.{Made as TheMade}
-use Rattle.core_steps.specs.Fields.{LocalFields, read_boxed, read_local, state_of}
+use Rattle.core_steps.specs.Fields.{LocalFields, read_local, state_of}
+use Rattle.core_steps.specs.Inside.Locals.{read_boxed}
 use Rattle.core_steps.specs.Locals.{IsLocal, IsFed, ended_with}
 use Rattle.core_steps.specs.Moves.{Goes}
 use Rattle.core_steps.specs.Determined.{Fed, events_of}
 use Rattle.core_steps.specs.Steps.{Job, State, step, awaits, outcome_in, Ran}
 use Rattle.core_steps.specs.Config.{Thread, thread_by_path, handed, put, with_child, after}
-use Rattle.core_steps.specs.Configs.{SlotFields, read_slot, slot_at, slot_put, with_slot, threads_from, IsCounted, SlotsRise, AreSlots, SlotNeeds, JoinsAt, StandsAt, StepsAt, Advanced, Advances}
+use Rattle.core_steps.specs.Configs.{SlotFields, read_slot, threads_from, IsCounted, SlotsRise, AreSlots, Advanced, Advances}
+use Rattle.core_steps.specs.Inside.Configs.{slot_at, slot_put, with_slot, SlotNeeds, JoinsAt, StandsAt, StepsAt}
 use Rattle.core_steps.proofs.StepLaws.{state_path}
 use Rattle.core_steps.proofs.StepFacts.{step_facts}
 use Rattle.core_steps.proofs.Threads.{found_path}

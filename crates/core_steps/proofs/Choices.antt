@@ -12,7 +12,8 @@ use Rattle.core_steps.specs.Fields.{state_of}
 use Rattle.core_steps.specs.Laws.{IsChecked}
 use Rattle.core_steps.specs.Steps.{Job, State, Phase, Fresh, Run, Failing, Ended, Moved, step, awaits, awaits_phase, outcome_in}
 use Rattle.core_steps.specs.Config.{Thread, thread_by_path, ended_of, handed, after, moved, chosen}
-use Rattle.core_steps.specs.Configs.{SlotFields, threads_from, slot_at, AreSlots, outcome_of, IsReady, IsWait, IsEnded, IsNeed}
+use Rattle.core_steps.specs.Configs.{SlotFields, threads_from, AreSlots, IsReady, IsWait}
+use Rattle.core_steps.specs.Inside.Configs.{slot_at, outcome_of, IsEnded, IsNeed}
 use Rattle.core_steps.proofs.CheckedStates.{never_stuck}
 use Rattle.core_steps.proofs.StepFacts.{fed_step, ended_stops}
 use Rattle.core_steps.proofs.Closed.{Closed}
@@ -143,9 +144,6 @@ awaits_live (Ended x) b e = absurd (none-some b e)
 awaits_live (Fresh t) b e = refl
 awaits_live (Failing k) b e = refl
 awaits_live (Run t fs) b e = refl
-
-pub handed_none : (job : Job) (ss : List SlotFields) (p : List ℕ) → slot_at ss p ≡ None → IsNeed job ss p (Err NoThread)
-handed_none job ss p f ts e = no_thread job ss ts p e f
 
 pub handed_ended : (job : Job) (ss : List SlotFields) (p : List ℕ) (s : SlotFields) → slot_at ss p ≡ Some s → ((x : State) → state_of job.program s.local ≡ Some x → (o : Outcome') × (outcome_in x.phase ≡ Some o)) → IsNeed job ss p (Err stop.Ended)
 handed_ended job ss p s f h ts e = let t = found_thread job ss ts p s e f in let o = h t.0.state t.2.state in (t.0, o.0, t.1, o.1)

@@ -11,7 +11,7 @@ use Rattle.priml_syntax.specs.Lists.{body_of}
 use Rattle.priml_syntax.proofs.Blocks.{code_is}
 use Rattle.core_steps.specs.declared.frame.Coming.{Coming}
 use Rattle.core_steps.specs.Fields.{FrameFields, block_at, body_at}
-use Rattle.core_steps.specs.Locals.{IsComing}
+use Rattle.core_steps.specs.Inside.Locals.{IsComing}
 use Rattle.core_steps.specs.Places.{body_from}
 
 action_in : (xs : List Bind) (n : ℕ) (k : Body) (d : Bind) → n < length xs → (c : Body) × (body_from n (body_of xs k) ≡ Some (bind (get_or xs n d).at (read_act (get_or xs n d).action) c))

@@ -1,5 +1,5 @@
 -- The rows of the table of steps, over the fields of a local state.
-use Rattle.std.proofs.Common.{◌≡◌, ℕ, ◌+◌, ◌&&◌, nat_lt, true, false, List, [], ◌∷◌, ◌++◌, length, map, Option, Some, None, refl, sym, ap, ◌∙◌, if◌then◌else◌}
+use Rattle.std.proofs.Common.{◌≡◌, ℕ, ◌+◌, ◌&&◌, nat_lt, true, List, [], ◌∷◌, ◌++◌, length, map, Option, Some, None, refl, sym, ap, ◌∙◌, if◌then◌else◌}
 use Rattle.std.specs.Prelude.{slice_get, IfSome}
 use Rattle.std.specs.Option.{option_and_then, option_map}
 use Rattle.std.proofs.lemmas.Option.{same_Some}
@@ -14,7 +14,8 @@ use Rattle.priml_syntax.specs.Values.{Value', thread_value, Outcome', returned, 
 use Rattle.core_steps.specs.declared.place.Turn.TheVariants.{Bind as At}
 use Rattle.core_steps.specs.Expressions.{result_of, results_of, AllGave}
 use Rattle.core_steps.specs.Fields.{FrameFields, LocalFields, fresh, running, failing, ended, body_at, frame_of, frames_of, fresh_phase, phase_of, state_of}
-use Rattle.core_steps.specs.Moves.{CanStep, Goes, past, bound_in, within_frame, called_frame, child_of}
+use Rattle.core_steps.specs.Moves.{Goes}
+use Rattle.core_steps.specs.Inside.Moves.{CanStep, past, bound_in, within_frame, called_frame, child_of}
 use Rattle.core_steps.specs.Steps.{Job, Frame, Phase, Fresh, Run, Failing, Ended, State, Moved, step, run_code, bound, fault_step, with_result, with_results, call_step, back_to, prio_of}
 use Rattle.core_steps.proofs.Opened.{body_past, body_within, body_called, opened_at, frame_opens, frame_is, frames_push, frames_pop}
 
@@ -100,11 +101,6 @@ spawns job l w at q b k s mode body room =
     (running_opens job.program (after_spawn l q) (opened_at (bound_in l.top (next_child l q)) k) s.below mode next s.below_are)
     (ap (λ o. Some (option_map (in_phase (child_of l (prio_of l.top.prios q))) (option_map Fresh o))) entered) refl
 
-pub spawns_too_deep : (job : Job) (l : LocalFields) (w : Option Outcome') (at : ℕ) (q : Prio) (b : Code) (k : Body) (s : Stands job l (bind at (spawn q b) k)) →
-    nat_lt (length l.path) 32 && nat_lt l.children 4294967295 ≡ false → Goes job l w End None (record l { mode = ended (faulted Depth) })
-spawns_too_deep job l w at q b k s full =
-    faults job l w (bind at (spawn q b) k) s Depth (ap (λ t. if t then Some (spawned l q b k s.below) else fault_step (in_phase l (Run (opened_at l.top (bind at (spawn q b) k)) s.below)) Depth) full)
-
 -- it enters a frame, and the old one waits behind its action
 pub enters : (job : Job) (l : LocalFields) (w : Option Outcome') (at : ℕ) (a : Act) (k : Body) (s : Stands job l (bind at a k)) (f : FrameFields) (c : Body) → l.mode ≡ running → body_at job.program l.top ≡ Some (bind at a k) → body_at job.program f ≡ Some c →
     run_code job (in_phase l (Run (opened_at l.top (bind at a k)) s.below)) (opened_at l.top (bind at a k)) s.below (bind at a k) w
@@ -149,14 +145,6 @@ leaves job l w at e s fs f v mode below gives =
     (ap (λ o. with_result (in_phase l (Run t s.below)) o (back_to (in_phase l (Run t s.below)) s.below)) gives ∙ ap (λ gs. back_to (in_phase l (Run t gs)) gs v) i.are)
     refl (running_opens job.program (record l { top = record f { scope = f.scope ++ v ∷ [] }; below = fs }) (bound i.frame i.frame.code v) i.others mode next i.rest) refl tt
 
--- or the thread ends with it
-pub ends : (job : Job) (l : LocalFields) (w : Option Outcome') (at : ℕ) (e : Term) (s : Stands job l (ret_tail at e)) (v : Value') → l.below ≡ [] → result_of l.top.scope e ≡ Some (returned v) → Goes job l w End None (record l { mode = ended (returned v) })
-ends job l w at e s v below gives =
-    let none : s.below ≡ [] = same_Some s.below [] (sym s.below_are ∙ ap (frames_of job.program) below) in
-    let t = opened_at l.top (ret_tail at e) in
-    goes_to job l w (ret_tail at e) s (record { event = End; next = in_phase l (Ended (returned v)); child = None }) End None (record l { mode = ended (returned v) })
-    (ap (λ o. with_result (in_phase l (Run t s.below)) o (back_to (in_phase l (Run t s.below)) s.below)) gives ∙ ap (λ gs. back_to (in_phase l (Run t gs)) gs v) none) refl refl refl tt
-
 -- a thread that has not started enters its block
 pub starts : (job : Job) (l : LocalFields) (w : Option Outcome') → CanStep job l w → l.mode ≡ fresh → Goes job l w Start None (record l { mode = running })
 starts job l w can mode = go (frame_of job.program l.top) l.below refl refl (sym (ap (λ m. option_map (in_phase l) (phase_of job.program l m)) mode) ∙ can.2)
@@ -197,14 +185,6 @@ not_stuck job l w c can mode body none =
     let s = stands job l w c can mode body in
     let same : in_phase l (Run (opened_at l.top c) s.below) ≡ can.0 = same_Some (in_phase l (Run (opened_at l.top c) s.below)) can.0 (sym s.opens ∙ can.2) in
     let clash : ◌≡◌ {A = Option Moved} None (Some can.1) = sym (none s.below) ∙ (ap (λ x. step job x w) same ∙ can.3) in
-    absurd (cc)
-
--- a frame that a step is made in has something left to run
-pub no_body : (job : Job) (l : LocalFields) (w : Option Outcome') → CanStep job l w → l.mode ≡ running → body_at job.program l.top ≡ None → ⊥
-no_body job l w can mode none =
-    let r = running_state job.program l can.0 mode can.2 in
-    let body = (frame_is job.program l.top r.top r.top_is).0 in
-    let clash : ◌≡◌ {A = Option Body} None (Some r.top.code) = sym none ∙ body in
     absurd (cc)
 
 -- an ended thread makes no step

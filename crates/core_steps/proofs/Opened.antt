@@ -30,20 +30,13 @@ at_action (suc n) (ret_tail q e) at a k h = absurd (cc)
 at_action (suc n) (if_tail q e x y) at a k h = absurd (cc)
 at_action (suc n) (case_tail q e x y) at a k h = absurd (cc)
 
--- an ending is that of the whole body
-first_from : (n : ℕ) (b c : Body) → body_from n b ≡ Some c → first_code b ≡ first_code c
-first_from zero b c e = ap first_code (same_Some b c e)
-first_from (suc n) (bind q x b) c e = first_from n b c e
-first_from (suc n) (ret_tail q e) c h = absurd (cc)
-first_from (suc n) (if_tail q e x y) c h = absurd (cc)
-first_from (suc n) (case_tail q e x y) c h = absurd (cc)
-
-second_from : (n : ℕ) (b c : Body) → body_from n b ≡ Some c → second_code b ≡ second_code c
-second_from zero b c e = ap second_code (same_Some b c e)
-second_from (suc n) (bind q x b) c e = second_from n b c e
-second_from (suc n) (ret_tail q e) c h = absurd (cc)
-second_from (suc n) (if_tail q e x y) c h = absurd (cc)
-second_from (suc n) (case_tail q e x y) c h = absurd (cc)
+-- what is read of the ending alone is the same of the whole body
+ending_from : {A : Type 0} (f : Body → A) → ((q : ℕ) (x : Act) (b : Body) → f (bind q x b) ≡ f b) → (n : ℕ) (b c : Body) → body_from n b ≡ Some c → f b ≡ f c
+ending_from f past zero b c e = ap f (same_Some b c e)
+ending_from f past (suc n) (bind q x b) c e = past q x b ∙ ending_from f past n b c e
+ending_from f past (suc n) (ret_tail q e) c h = absurd (cc)
+ending_from f past (suc n) (if_tail q e x y) c h = absurd (cc)
+ending_from f past (suc n) (case_tail q e x y) c h = absurd (cc)
 
 -- one turn more
 walk_more : (ts : List Turn) (t : Turn) (c : Code) → walk (ts ++ t ∷ []) c ≡ option_and_then (turned t) (walk ts c)
@@ -79,9 +72,6 @@ in_block p f c e = go (block_at p f) refl e
     go None q h = absurd (cc)
     go (Some d) q h = record { code = d; block = q; rest = h }
 
-turned_in : (t : Turn) (d c : Code) → turned t d ≡ Some c → body_from 0 (inside c) ≡ Some (inside c)
-turned_in t d c e = refl
-
 -- past the next action, whatever comes into scope
 pub body_past : (p : Tree) (f : FrameFields) (at : ℕ) (a : Act) (k : Body) (scope : List Value') → body_at p f ≡ Some (bind at a k) → body_at p (record f { done = f.done + 1; scope = scope }) ≡ Some k
 body_past p f at a k scope e =
@@ -97,10 +87,10 @@ turned_action : (n : ℕ) (d c : Code) (at : ℕ) (a : Act) (k : Body) → body_
 turned_action n (block q b) c at a k e is = ap (option_and_then act_code) (at_action n b at a k e) ∙ is
 
 turned_first : (n : ℕ) (d c : Code) (b : Body) → body_from n (inside d) ≡ Some b → first_code b ≡ Some c → turned First d ≡ Some c
-turned_first n (block q x) c b e is = first_from n x b e ∙ is
+turned_first n (block q x) c b e is = ending_from first_code (λ _ _ _. refl) n x b e ∙ is
 
 turned_second : (n : ℕ) (d c : Code) (b : Body) → body_from n (inside d) ≡ Some b → second_code b ≡ Some c → turned Second d ≡ Some c
-turned_second n (block q x) c b e is = second_from n x b e ∙ is
+turned_second n (block q x) c b e is = ending_from second_code (λ _ _ _. refl) n x b e ∙ is
 
 -- the block of the next action
 pub body_within : (p : Tree) (f : FrameFields) (at : ℕ) (a : Act) (k : Body) (c : Code) → body_at p f ≡ Some (bind at a k) → act_code a ≡ Some c → body_at p (record f { turns = f.turns ++ At f.done ∷ []; done = 0 }) ≡ Some (inside c)

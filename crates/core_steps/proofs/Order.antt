@@ -50,11 +50,7 @@ before_from_left (x ∷ b) (y ∷ p) r h = go h (before_from_left b p r)
 
 left_irreflexive : (p : List ℕ) → Left p p → ⊥
 left_irreflexive [] h = h
-left_irreflexive (x ∷ p) h = go h (left_irreflexive p)
-  where
-    go : (x < x) ⊎ ((x ≡ x) × Left p p) → (Left p p → ⊥) → ⊥
-    go (inl a) f = omega arith
-    go (inr a) f = f a.1
+left_irreflexive (x ∷ p) h = elim h [ inl a ↦ omega (arith, a) | inr a ↦ left_irreflexive p a.1 ]
 
 -- no thread is its own descendant
 pub not_below_self : (p : List ℕ) → Below p p → ⊥

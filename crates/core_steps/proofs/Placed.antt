@@ -11,9 +11,11 @@ use Rattle.priml_syntax.specs.Tree.{Tree}
 use Rattle.priml_syntax.proofs.Orders.{Told, told, compare-less, compare-equal, compare-greater, irreflexive, transitive, same_path_is, same_path_refl, same_path_not}
 use Rattle.core_steps.specs.declared.slot.Slot.{Slot}
 use Rattle.core_steps.specs.Config.{Thread, put, added}
-use Rattle.core_steps.specs.Configs.{SlotFields, read_slot, slot_added, slot_put, SlotsRise}
+use Rattle.core_steps.specs.Configs.{SlotFields, read_slot, SlotsRise}
+use Rattle.core_steps.specs.Inside.Configs.{slot_added, slot_put}
 use Rattle.core_steps.proofs.Searched.{each_rises, rise_at, same_within}
 use Rattle.core_steps.proofs.Slots.{Stands, AllStand, path_stands}
+use Rattle.core_steps.proofs.Threads.{each_if}
 
 -- whether the slot stays before one of that path
 abbrev pub stays_before : List ℕ → Slot → Bool
@@ -125,19 +127,11 @@ put_rises s (x ∷ ss) h = go (same_path x.local.path s.local.path) refl (put_ri
 -- what holds of the slots and of the new one
 pub put_each : (P : SlotFields → Type 0) (s : SlotFields) (ss : List SlotFields) → P s → AllByRecursion P ss → AllByRecursion P (slot_put s ss)
 put_each P s [] h a = tt
-put_each P s (x ∷ ss) h a = go (same_path x.local.path s.local.path) (put_each P s ss h a.1)
-  where
-    go : (b : Bool) → AllByRecursion P (slot_put s ss) → AllByRecursion P (if b then s ∷ ss else x ∷ slot_put s ss)
-    go true k = (h, a.1)
-    go false k = (a.0, k)
+put_each P s (x ∷ ss) h a = each_if P (same_path x.local.path s.local.path) (s ∷ ss) (x ∷ slot_put s ss) (h, a.1) (a.0, put_each P s ss h a.1)
 
 pub added_each : (P : SlotFields → Type 0) (s : SlotFields) (ss : List SlotFields) → P s → AllByRecursion P ss → AllByRecursion P (slot_added s ss)
 added_each P s [] h a = (h, tt)
-added_each P s (x ∷ ss) h a = go (path_lt s.local.path x.local.path) (added_each P s ss h a.1)
-  where
-    go : (b : Bool) → AllByRecursion P (slot_added s ss) → AllByRecursion P (if b then s ∷ x ∷ ss else x ∷ slot_added s ss)
-    go true k = (h, a)
-    go false k = (a.0, k)
+added_each P s (x ∷ ss) h a = each_if P (path_lt s.local.path x.local.path) (s ∷ x ∷ ss) (x ∷ slot_added s ss) (h, a) (a.0, added_each P s ss h a.1)
 
 -- and they stand for the threads
 pub put_stands : (p : Tree) (s : SlotFields) (u : Thread) (ss : List SlotFields) (ts : List Thread) → Stands p s u → AllStand p ss ts → AllStand p (slot_put s ss) (put u ts)

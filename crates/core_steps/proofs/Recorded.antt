@@ -1,9 +1,9 @@
 -- The records of slots: they are those of the threads that the slots stand for, in the order of paths, and those of the serial meaning.
-use Rattle.std.proofs.Common.{◌≡◌, ℕ, ◌≤◌, List, [], ◌∷◌, ◌++◌, Option, Some, None, refl, sym, ◌∙◌, ap, ap₂, subst, arith, append_assoc}
+use Rattle.std.proofs.Common.{◌≡◌, ℕ, ◌≤◌, List, [], ◌∷◌, ◌++◌, Option, Some, None, refl, sym, ◌∙◌, ap, ap₂, subst, arith}
 use Rattle.std.specs.Prelude.{IfSome}
 use Rattle.std.specs.Option.{option_map}
 use Rattle.std.specs.List.{AllByRecursion}
-use Rattle.std.proofs.lemmas.Option.{same_Some, none-some}
+use Rattle.std.proofs.lemmas.Option.{none-some}
 use Rattle.priml_syntax.specs.Paths.{Precedes}
 use Rattle.priml_syntax.specs.Tree.{Tree}
 use Rattle.priml_syntax.specs.Values.{Outcome', Entry}
@@ -20,17 +20,6 @@ use Rattle.core_steps.proofs.Slots.{Stands, AllStand, all_stand, path_stands, en
 -- the records, where there are any, behind these
 abbrev pub behind : List Entry → Option (List Entry) → Option (List Entry)
 behind es o = option_map (λ fs. es ++ fs) o
-
--- one more of them
-pub behind_one : (s : SlotFields) (e : Entry) (es : List Entry) (m : Option Outcome') (r : Option (List Entry)) → Some e ≡ option_map (entry_from s) m → behind es (entry_with s m r) ≡ behind (es ++ e ∷ []) r
-behind_one s e es None r h = absurd (none-some e (sym h))
-behind_one s e es (Some o) None h = refl
-behind_one s e es (Some o) (Some fs) h = let q : e ≡ entry_from s o = same_Some e (entry_from s o) h in ap Some (ap (λ x. es ++ x ∷ fs) (sym q) ∙ sym (append_assoc es (e ∷ []) fs))
-
--- a thread that has not ended
-pub behind_none : (s : SlotFields) (es : List Entry) (m : Option Outcome') (r : Option (List Entry)) → None ≡ option_map (entry_from s) m → behind es (entry_with s m r) ≡ None
-behind_none s es None r h = refl
-behind_none s es (Some o) r h = absurd (none-some (entry_from s o) h)
 
 -- they are those of the threads
 entry_stands : (p : Tree) (s : SlotFields) (t : Thread) (o : Outcome') → Stands p s t → entry_from s o ≡ entry_of t o

@@ -8,7 +8,8 @@ use Rattle.std.specs.List.Sorted.{IsSearchInRange, IsBinarySearchResult}
 use Rattle.priml_syntax.specs.Paths.{Precedes, same_path}
 use Rattle.priml_syntax.proofs.Orders.{KeysRise, key_found, key_absent, irreflexive, same_path_refl, same_path_not}
 use Rattle.core_steps.specs.declared.slot.Slot.{Slot}
-use Rattle.core_steps.specs.Configs.{SlotFields, read_slot, slot_at, SlotsRise, StandsAt}
+use Rattle.core_steps.specs.Configs.{SlotFields, read_slot, SlotsRise}
+use Rattle.core_steps.specs.Inside.Configs.{slot_at, StandsAt}
 
 pub each_rises : (q : List ℕ) (xs : List Slot) (j : ℕ) (d : Slot) → AllByRecursion (λ (s : SlotFields). Precedes q s.local.path) (map read_slot xs) → j < length xs → Precedes q (slice_index_or xs j d).local.path
 each_rises q [] j d h l = absurd (omega (arith, l))

@@ -6,7 +6,7 @@ use Rattle.priml_syntax.specs.Tree.{Term}
 use Rattle.priml_syntax.specs.Values.{Value', Outcome', returned, faulted}
 use Rattle.priml_syntax.specs.Read.{read_term}
 use Rattle.core_steps.specs.Expressions.{Results, AllGave, OneFault, result_of, results_of, one_more}
-use Rattle.core_steps.specs.Results.{with_last}
+use Rattle.core_steps.specs.Inside.Results.{with_last}
 
 abbrev one_last : Option Results → Option Outcome' → Option Results
 one_last None o = None

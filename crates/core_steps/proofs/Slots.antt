@@ -10,7 +10,8 @@ use Rattle.core_steps.specs.Fields.{LocalFields, Mode', fresh, running, failing,
 use Rattle.core_steps.specs.Locals.{ended_with}
 use Rattle.core_steps.specs.Steps.{Job, Phase, State, outcome_in}
 use Rattle.core_steps.specs.Config.{Thread, thread_by_path, IsFinished}
-use Rattle.core_steps.specs.Configs.{SlotFields, thread_of, threads_from, slot_at, SlotsRise, AreKept, AreSlots, all_end}
+use Rattle.core_steps.specs.Configs.{SlotFields, thread_of, threads_from, SlotsRise, AreKept, AreSlots, all_end}
+use Rattle.core_steps.specs.Inside.Configs.{slot_at}
 use Rattle.core_steps.proofs.StepLaws.{state_path, live_phase}
 use Rattle.core_steps.proofs.Standing.{ended_state}
 use Rattle.core_steps.proofs.Moves.{in_phase}

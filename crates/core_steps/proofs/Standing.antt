@@ -10,7 +10,8 @@ use Rattle.priml_syntax.specs.Values.{Outcome'}
 use Rattle.priml_syntax.specs.Read.{read_tail}
 use Rattle.core_steps.specs.declared.frame.Root.TheVariants.{Main}
 use Rattle.core_steps.specs.Fields.{FrameFields, LocalFields, ended, fresh, phase_of, state_of}
-use Rattle.core_steps.specs.Locals.{IsLocal, awaited_in}
+use Rattle.core_steps.specs.Locals.{IsLocal}
+use Rattle.core_steps.specs.Inside.Locals.{awaited_in}
 use Rattle.core_steps.specs.Steps.{Job, State, Ended, outcome_in, prio_of, root_state, root}
 use Rattle.core_steps.proofs.Moves.{in_phase}
 

@@ -14,8 +14,10 @@ use Rattle.priml_syntax.specs.Values.{Outcome'}
 use Rattle.core_steps.specs.Determined.{Fed}
 use Rattle.core_steps.specs.Fields.{FrameFields, LocalFields, body_at, Mode', fresh, running, failing, ended, frame_of, frames_of, fresh_phase, phase_of, state_of}
 use Rattle.core_steps.specs.Laws.{IsChecked}
-use Rattle.core_steps.specs.Locals.{IsLocal, IsFed, IsWaiting, ended_with}
-use Rattle.core_steps.specs.Moves.{CanStep, Goes}
+use Rattle.core_steps.specs.Locals.{IsLocal, IsFed, ended_with}
+use Rattle.core_steps.specs.Inside.Locals.{IsWaiting}
+use Rattle.core_steps.specs.Moves.{Goes}
+use Rattle.core_steps.specs.Inside.Moves.{CanStep}
 use Rattle.core_steps.specs.Steps.{Job, Frame, Phase, Fresh, Run, Failing, State, step, awaits, awaits_phase, awaits_code, outcome_in, Ran, born, alone, joined}
 use Rattle.core_steps.proofs.CheckedStates.{never_stuck}
 use Rattle.core_steps.proofs.StepFacts.{step_facts, child_facts, joins_awaited}

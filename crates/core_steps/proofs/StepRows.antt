@@ -15,11 +15,12 @@ use Rattle.priml_syntax.specs.Values.{Value', unit_value, int_value, left_value,
 use Rattle.core_steps.specs.declared.place.Turn.{Turn}
 use Rattle.core_steps.specs.declared.place.Turn.TheVariants.{Bind as At}
 use Rattle.core_steps.specs.declared.frame.Root.TheVariants.{Procedure}
-use Rattle.core_steps.specs.Expressions.{result_of, results_of, AllGave, OneFault}
-use Rattle.core_steps.specs.Fields.{FrameFields, LocalFields, fresh, running, failing, ended, state_of}
-use Rattle.core_steps.specs.Locals.{number_in}
-use Rattle.core_steps.specs.Moves.{CanStep, Goes, IsNext, past, bound_in, within_frame, called_frame, child_of}
-use Rattle.core_steps.specs.Steps.{Job, Frame, Run, Failing, State, bound, with_result, with_results, call_step, read_step, output_step, sync_step, thread_in, prio_of}
+use Rattle.core_steps.specs.Expressions.{result_of, results_of, AllGave}
+use Rattle.core_steps.specs.Fields.{FrameFields, LocalFields, fresh, running, ended, state_of}
+use Rattle.core_steps.specs.Inside.Locals.{number_in}
+use Rattle.core_steps.specs.Moves.{Goes}
+use Rattle.core_steps.specs.Inside.Moves.{CanStep, IsNext, past, bound_in, within_frame, called_frame, child_of}
+use Rattle.core_steps.specs.Steps.{Job, Frame, Run, State, bound, with_result, with_results, call_step, read_step, output_step, sync_step, thread_in, prio_of}
 use Rattle.core_steps.proofs.Opened.{body_past, opened_at, frame_opens}
 use Rattle.core_steps.proofs.Moves.{in_phase, stands, goes_to, faults, binds, calls, runs_block, spawns, after_spawn, not_stuck, running_opens}
 
@@ -53,11 +54,6 @@ module _ (job : Job) (l : LocalFields) where
       let st = in_phase l (Run (opened_at l.top c) s.below) in
       faults job l None c s k (ap (λ o. with_result st o (λ x. Some (record { event = Plain; next = in_phase l (Run (bound (opened_at l.top c) body x) s.below); child = None }))) gives)
 
-  pub ret_stuck : (e : Term) → CanStep job l None → l.mode ≡ running → IsNext job.program l.top (ret e) → result_of l.top.scope e ≡ None → ⊥
-  ret_stuck e can mode (at, body, is) gives =
-      let c = bind at (ret e) body in
-      not_stuck job l None c can mode is (λ fs. ap (λ o. with_result (in_phase l (Run (opened_at l.top c) fs)) o (λ x. Some (record { event = Plain; next = in_phase l (Run (bound (opened_at l.top c) body x) fs); child = None }))) gives)
-
   -- a number is written
   pub output_row : (e : Term) (v : Value') (z : ℤ) → CanStep job l None → l.mode ≡ running → IsNext job.program l.top (output e) → result_of l.top.scope e ≡ Some (returned v) → number_in v ≡ Some z → Goes job l None (Wrote z) None (record l { top = bound_in l.top unit_value })
   output_row e (int_value y) z can mode (at, k, body) gives number =
@@ -69,13 +65,6 @@ module _ (job : Job) (l : LocalFields) where
       (binds job l None at (output e) k s (Wrote y) unit_value mode body (ap (λ o. with_result st o (output_step st (opened_at l.top c) s.below k)) gives))
   output_row e v z can mode next gives number = absurd (cc)
 
-  pub output_fault : (e : Term) (k : FaultKind) → CanStep job l None → l.mode ≡ running → IsNext job.program l.top (output e) → result_of l.top.scope e ≡ Some (faulted k) → Goes job l None End None (record l { mode = ended (faulted k) })
-  output_fault e k can mode (at, body, is) gives =
-      let c = bind at (output e) body in
-      let s = stands job l None c can mode is in
-      let st = in_phase l (Run (opened_at l.top c) s.below) in
-      faults job l None c s k (ap (λ o. with_result st o (output_step st (opened_at l.top c) s.below body)) gives)
-
   not_written : (st : State) (t : Frame) (fs : List Frame) (k : Body) (v : Value') → number_in v ≡ None → output_step st t fs k v ≡ None
   not_written st t fs k (int_value z) e = absurd (cc)
   not_written st t fs k v e = refl
@@ -84,11 +73,6 @@ module _ (job : Job) (l : LocalFields) where
   output_stuck e v can mode (at, body, is) gives wrong =
       let c = bind at (output e) body in
       not_stuck job l None c can mode is (λ fs. ap (λ o. with_result (in_phase l (Run (opened_at l.top c) fs)) o (output_step (in_phase l (Run (opened_at l.top c) fs)) (opened_at l.top c) fs body)) gives ∙ not_written (in_phase l (Run (opened_at l.top c) fs)) (opened_at l.top c) fs body v wrong)
-
-  pub output_none : (e : Term) → CanStep job l None → l.mode ≡ running → IsNext job.program l.top (output e) → result_of l.top.scope e ≡ None → ⊥
-  output_none e can mode (at, body, is) gives =
-      let c = bind at (output e) body in
-      not_stuck job l None c can mode is (λ fs. ap (λ o. with_result (in_phase l (Run (opened_at l.top c) fs)) o (output_step (in_phase l (Run (opened_at l.top c) fs)) (opened_at l.top c) fs body)) gives)
 
   -- an input is read, or none is left
   pub input_row : (z : ℤ) → CanStep job l None → l.mode ≡ running → IsNext job.program l.top input → slice_get (inputs_of job.inputs l.path) l.reads ≡ Some z → Goes job l None Read None (record l { reads = l.reads + 1; top = bound_in l.top (right_value (int_value z)) })
@@ -126,46 +110,13 @@ module _ (job : Job) (l : LocalFields) where
           let t = opened_at l.top (bind at (call g ps es) k) in
           ap (λ o. with_results st o (call_step st t fs k (slice_get job.program.procs g) ps)) gives ∙ ap (λ o. call_step st t fs k o ps vs) q))
 
-  pub call_fault : (g : ℕ) (ps : List Prio) (es : List Term) (f : FaultKind) → CanStep job l None → l.mode ≡ running → IsNext job.program l.top (call g ps es) → results_of l.top.scope es ≡ Some (OneFault f) → Goes job l None End None (record l { mode = ended (faulted f) })
-  call_fault g ps es f can mode (at, k, body) gives =
-      let c = bind at (call g ps es) k in
-      let s = stands job l None c can mode body in
-      let st = in_phase l (Run (opened_at l.top c) s.below) in
-      faults job l None c s f (ap (λ o. with_results st o (call_step st (opened_at l.top c) s.below k (slice_get job.program.procs g) ps)) gives)
-
-  pub call_stuck : (g : ℕ) (ps : List Prio) (es : List Term) → CanStep job l None → l.mode ≡ running → IsNext job.program l.top (call g ps es) → results_of l.top.scope es ≡ None → ⊥
-  call_stuck g ps es can mode (at, k, body) gives =
-      let c = bind at (call g ps es) k in
-      not_stuck job l None c can mode body (λ fs. ap (λ o. with_results (in_phase l (Run (opened_at l.top c) fs)) o (call_step (in_phase l (Run (opened_at l.top c) fs)) (opened_at l.top c) fs k (slice_get job.program.procs g) ps)) gives)
-
   -- a sync awaits a thread
-  pub sync_stuck : (x : ℕ) → CanStep job l None → l.mode ≡ running → IsNext job.program l.top (sync x) → ⊥
-  sync_stuck x can mode (at, k, body) =
-      not_stuck job l None (bind at (sync x) k) can mode body (λ fs. go (in_phase l (Run (opened_at l.top (bind at (sync x) k)) fs)) (opened_at l.top (bind at (sync x) k)) fs (thread_in (slice_get l.top.scope x)))
-    where
-      go : (st : State) (t : Frame) (fs : List Frame) (o : Option (List ℕ)) → sync_step st t fs k o None ≡ None
-      go st t fs None = refl
-      go st t fs (Some b) = refl
-
   pub join_row : (x : ℕ) (b : List ℕ) (v : Value') → CanStep job l (Some (returned v)) → l.mode ≡ running → IsNext job.program l.top (sync x) → thread_in (slice_get l.top.scope x) ≡ Some b → Goes job l (Some (returned v)) (Join b) None (record l { top = bound_in l.top v })
   join_row x b v can mode (at, k, body) names =
       let c = bind at (sync x) k in
       let s = stands job l (Some (returned v)) c can mode body in
       let st = in_phase l (Run (opened_at l.top c) s.below) in
       binds job l (Some (returned v)) at (sync x) k s (Join b) v mode body (ap (λ o. sync_step st (opened_at l.top c) s.below k o (Some (returned v))) names)
-
-  pub join_fault : (x : ℕ) (b : List ℕ) (f : FaultKind) → CanStep job l (Some (faulted f)) → l.mode ≡ running → IsNext job.program l.top (sync x) → thread_in (slice_get l.top.scope x) ≡ Some b → Goes job l (Some (faulted f)) (Join b) None (record l { mode = failing f })
-  join_fault x b f can mode (at, k, body) names =
-      let c = bind at (sync x) k in
-      let s = stands job l (Some (faulted f)) c can mode body in
-      let st = in_phase l (Run (opened_at l.top c) s.below) in
-      goes_to job l (Some (faulted f)) c s (record { event = Join b; next = in_phase l (Failing f); child = None }) (Join b) None (record l { mode = failing f })
-      (ap (λ o. sync_step st (opened_at l.top c) s.below k o (Some (faulted f))) names) refl refl refl tt
-
-  pub join_stuck : (x : ℕ) (o : Outcome') → CanStep job l (Some o) → l.mode ≡ running → IsNext job.program l.top (sync x) → thread_in (slice_get l.top.scope x) ≡ None → ⊥
-  join_stuck x o can mode (at, k, body) names =
-      let c = bind at (sync x) k in
-      not_stuck job l (Some o) c can mode body (λ fs. ap (λ q. sync_step (in_phase l (Run (opened_at l.top c) fs)) (opened_at l.top c) fs k q (Some o)) names)
 
   -- a block is entered
   pub block_row : (b : Code) → CanStep job l None → l.mode ≡ running → IsNext job.program l.top (do_block b) → Goes job l None Plain None (record l { top = within_frame l.top (At l.top.done); below = l.below ++ past l.top ∷ [] })

@@ -13,6 +13,11 @@ pub all_map : {X : Type 0} {P Q : X → Type 0} (xs : List X) → ((x : X) → P
 all_map [] f a = tt
 all_map (x ∷ xs) f a = (f x a.0, all_map xs f a.1)
 
+-- what holds of the elements of both lists holds of those of the one that is chosen
+pub each_if : {X : Type 0} (P : X → Type 0) (b : Bool) (xs ys : List X) → AllByRecursion P xs → AllByRecursion P ys → AllByRecursion P (if b then xs else ys)
+each_if P true xs ys h k = h
+each_if P false xs ys h k = k
+
 -- in the order of paths, no path twice
 abbrev pub InOrder : List Thread → Type 0
 InOrder [] = Unit {0}
@@ -117,11 +122,7 @@ put_in_order u (x ∷ ts) s = go (same_path x.state.path u.state.path) refl (put
 
 each_added : (P : Thread → Type 0) (u : Thread) (ts : List Thread) → P u → AllByRecursion P ts → AllByRecursion P (added u ts)
 each_added P u [] p a = (p, tt)
-each_added P u (x ∷ ts) p a = go (path_lt u.state.path x.state.path) (each_added P u ts p a.1)
-  where
-    go : (b : Bool) → AllByRecursion P (added u ts) → AllByRecursion P (if b then u ∷ x ∷ ts else x ∷ added u ts)
-    go true h = (p, a)
-    go false h = (a.0, h)
+each_added P u (x ∷ ts) p a = each_if P (path_lt u.state.path x.state.path) (u ∷ x ∷ ts) (x ∷ added u ts) (p, a) (a.0, each_added P u ts p a.1)
 
 pub added_in_order : (u : Thread) (ts : List Thread) → thread_by_path ts u.state.path ≡ None → InOrder ts → InOrder (added u ts)
 added_in_order u [] e s = (tt, tt)

@@ -4,9 +4,10 @@ use Rattle.std.specs.Option.{option_map}
 use Rattle.priml_syntax.specs.Values.{Outcome'}
 use Rattle.core_steps.specs.declared.slot.Slot.{Slot}
 use Rattle.core_steps.specs.declared.local.Made.{Made as TheMade}
-use Rattle.core_steps.specs.Fields.{read_boxed}
+use Rattle.core_steps.specs.Inside.Locals.{read_boxed}
 use Rattle.core_steps.specs.Steps.{Job}
-use Rattle.core_steps.specs.Configs.{read_slot, with_slot, SlotsRise, AreSlots, SlotNeeds, StandsAt, StepsAt, Advances}
+use Rattle.core_steps.specs.Configs.{read_slot, SlotsRise, AreSlots, Advances}
+use Rattle.core_steps.specs.Inside.Configs.{with_slot, SlotNeeds, StandsAt, StepsAt}
 use Rattle.core_steps.proofs.Searched.{path_there}
 use Rattle.core_steps.proofs.Slots.{slots_rise}
 use Rattle.core_steps.proofs.Advanced.{mid_rises, new_slots, advances}

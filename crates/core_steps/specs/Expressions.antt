@@ -11,8 +11,12 @@ use Rattle.priml_syntax.specs.declared.expr.Op.TheVariants.{Add, Sub, Mul, Div, 
 abbrev pub fits : ℤ → Bool
 fits z = int_le (negsuc (2 ^ 63 - 1)) z && int_le z (pos (2 ^ 63 - 1))
 
+-- the number z, or Overflow where q is not within that range
+abbrev pub checked_by : ℤ → ℤ → Outcome'
+checked_by q z = if fits q then returned (int_value z) else faulted Overflow
+
 abbrev pub checked : ℤ → Outcome'
-checked z = if fits z then returned (int_value z) else faulted Overflow
+checked z = checked_by z z
 
 abbrev pub divided : ℤ → ℤ → Outcome'
 divided z (pos Rattle.std.specs.Prelude.zero) = faulted Zero
@@ -21,7 +25,7 @@ divided z d = checked (int_div z d)
 -- a remainder overflows where the quotient does
 abbrev pub remainder : ℤ → ℤ → Outcome'
 remainder z (pos Rattle.std.specs.Prelude.zero) = faulted Zero
-remainder z d = if fits (int_div z d) then returned (int_value (int_rem z d)) else faulted Overflow
+remainder z d = checked_by (int_div z d) (int_rem z d)
 
 abbrev pub same_int : ℤ → ℤ → Bool
 same_int a b = int_le a b && int_le b a

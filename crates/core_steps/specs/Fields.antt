@@ -1,7 +1,6 @@
 -- The fields of a local state as plain data, and the state that they stand for in a job.
-use Rattle.std.specs.Prelude.{Box, ℕ, List, [], ◌∷◌, ◌++◌, Option, Some, None, map, slice_get}
+use Rattle.std.specs.Prelude.{ℕ, List, [], ◌∷◌, ◌++◌, Option, Some, None, map, slice_get}
 use Rattle.std.specs.Option.{option_and_then, option_map}
-use Rattle.std.specs.declared.alloc.Global.{Global}
 use Rattle.priml_syntax.specs.declared.value.FaultKind.{FaultKind}
 use Rattle.priml_syntax.specs.Tree.{Code, Body, Routine, Tree, inside}
 use Rattle.priml_syntax.specs.Values.{Value', Outcome'}
@@ -51,11 +50,16 @@ read_mode (mode.Failing k) = failing k
 read_mode (mode.Ended o) = ended (read_outcome o)
 
 abbrev pub read_local : TheLocal → LocalFields
-read_local l = record { path = l.path; prio = l.prio; reads = l.reads; children = l.children; steps = l.steps; mode = read_mode l.mode; top = read_frame l.top; below = map read_frame l.below.items }
-
--- the same of one in a box
-abbrev pub read_boxed : Box TheLocal Global → LocalFields
-read_boxed b = read_local b.value
+read_local l = record {
+  path = l.path;
+  prio = l.prio;
+  reads = l.reads;
+  children = l.children;
+  steps = l.steps;
+  mode = read_mode l.mode;
+  top = read_frame l.top;
+  below = map read_frame l.below.items;
+}
 
 -- the routine that a frame runs in
 abbrev pub routine_at : Tree → Root → Option Routine

@@ -10,3 +10,4 @@ pub mod Fields
 pub mod Moves
 pub mod Locals
 pub mod Configs
+pub mod Inside

@@ -100,31 +100,43 @@ abbrev pub eval : Job → ℕ → Here → List Entry → Body → List Value' �
 eval job zero h done c scope ps = Out
 eval job (suc d) h done (ret_tail at e) scope ps = with_value h done (result_of scope e) (λ v. Back (returned v) h done)
 eval job (suc d) h done (if_tail at e a b) scope ps =
-    with_value h done (result_of scope e) (λ v. elim v [ bool_value c ↦ elim c [ true ↦ eval job d (noted h Plain) done (inside a) scope ps | false ↦ eval job d (noted h Plain) done (inside b) scope ps ] | _ ↦ Out ])
+    with_value h done (result_of scope e) (λ v. elim v [
+      | bool_value c ↦ elim c [ true ↦ eval job d (noted h Plain) done (inside a) scope ps | false ↦ eval job d (noted h Plain) done (inside b) scope ps ]
+      | _ ↦ Out
+    ])
 eval job (suc d) h done (case_tail at e a b) scope ps =
-    with_value h done (result_of scope e) (λ v. cased v (λ w. eval job d (noted h Plain) done (inside a) (scope ++ w ∷ []) ps) (λ w. eval job d (noted h Plain) done (inside b) (scope ++ w ∷ []) ps))
+    with_value h done (result_of scope e) (λ v. cased v
+    (λ w. eval job d (noted h Plain) done (inside a) (scope ++ w ∷ []) ps)
+    (λ w. eval job d (noted h Plain) done (inside b) (scope ++ w ∷ []) ps))
 eval job (suc d) h done (bind at (ret e) k) scope ps =
     with_value h done (result_of scope e) (λ v. eval job d (noted h Plain) done k (scope ++ v ∷ []) ps)
 eval job (suc d) h done (bind at (spawn p b) k) scope ps =
     elim (may_spawn h) [
-      | true ↦ after_thread (closing (eval job d (entered (child_path h.path h.children) (prio_of ps p)) done (inside b) scope ps)) (λ done'. eval job d (record h { children = h.children + 1; events = h.events ++ Spawn ∷ [] }) done' k (scope ++ thread_value (child_path h.path h.children) (prio_of ps p) ∷ []) ps)
+      | true ↦
+          after_thread (closing (eval job d (entered (child_path h.path h.children) (prio_of ps p)) done (inside b) scope ps))
+          (λ done'. eval job d (record h { children = h.children + 1; events = h.events ++ Spawn ∷ [] }) done' k
+          (scope ++ thread_value (child_path h.path h.children) (prio_of ps p) ∷ []) ps)
       | false ↦ Back (faulted Depth) h done
     ]
 eval job (suc d) h done (bind at (sync x) k) scope ps =
     synced h done (thread_in (slice_get scope x)) (λ b v. eval job d (noted h (Join b)) done k (scope ++ v ∷ []) ps)
 eval job (suc d) h done (bind at (call f qs es) k) scope ps =
-    with_values h done (results_of scope es) (λ vs. called (slice_get job.program.procs f) (λ g. after_block (eval job d (noted h Plain) done (inside g.body) vs (map (prio_of ps) qs)) (λ w h' done'. eval job d (noted h' Plain) done' k (scope ++ w ∷ []) ps)))
+    with_values h done (results_of scope es) (λ vs. called (slice_get job.program.procs f)
+    (λ g. after_block (eval job d (noted h Plain) done (inside g.body) vs (map (prio_of ps) qs))
+    (λ w h' done'. eval job d (noted h' Plain) done' k (scope ++ w ∷ []) ps)))
 eval job (suc d) h done (bind at (do_block b) k) scope ps =
     after_block (eval job d (noted h Plain) done (inside b) scope ps) (λ w h' done'. eval job d (noted h' Plain) done' k (scope ++ w ∷ []) ps)
 eval job (suc d) h done (bind at input k) scope ps =
-    drawn (slice_get (inputs_of job.inputs h.path) h.reads) (λ v n. eval job d (record h { reads = h.reads + n; events = h.events ++ Read ∷ [] }) done k (scope ++ v ∷ []) ps)
+    drawn (slice_get (inputs_of job.inputs h.path) h.reads)
+    (λ v n. eval job d (record h { reads = h.reads + n; events = h.events ++ Read ∷ [] }) done k (scope ++ v ∷ []) ps)
 eval job (suc d) h done (bind at (output e) k) scope ps =
     with_value h done (result_of scope e) (λ v. written v (λ z. eval job d (noted h (Wrote z)) done k (scope ++ unit_value ∷ []) ps))
 
 -- the mains one after another, each whole
 abbrev pub roots_done : Job → ℕ → List Routine → ℕ → List Entry → Option (List Entry)
 roots_done job n [] k done = Some done
-roots_done job n (m ∷ ms) k done = option_and_then (roots_done job n ms (k + 1)) (closing (eval job n (entered (k ∷ []) (prio_of [] m.declares.own)) done (inside m.body) [] []))
+roots_done job n (m ∷ ms) k done =
+    option_and_then (roots_done job n ms (k + 1)) (closing (eval job n (entered (k ∷ []) (prio_of [] m.declares.own)) done (inside m.body) [] []))
 
 pub data Meaning : Type 0 where
   Over : Meaning

@@ -75,13 +75,25 @@ abbrev pub back_to : State → List Frame → Value' → Option Moved
 back_to s [] v = go s End (Ended (returned v))
 back_to s (f ∷ fs) v = go s Plain (Run (bound f f.code v) fs)
 
+-- code in the scope and with the priorities of a frame
+abbrev pub with_code : Frame → Body → Frame
+with_code t c = record { code = c; scope = t.scope; prios = t.prios }
+
+-- a procedure's body, with these arguments, as code of a frame calls it
+abbrev pub body_called_in : Frame → Routine → List Prio → List Value' → Frame
+body_called_in t f ps vs = record { code = inside f.body; scope = vs; prios = map (prio_of t.prios) ps }
+
+-- a thread that has not started
+abbrev pub new_thread : List ℕ → ℕ → Frame → State
+new_thread path prio t = record { path = path; prio = prio; reads = 0; children = 0; phase = Fresh t }
+
 abbrev pub spawn_step : State → Frame → List Frame → Prio → Code → Body → Option Moved
 spawn_step s t fs p b k =
     if nat_lt (length s.path) 32 && nat_lt s.children 4294967295
     then Some (record {
       event = Spawn;
       next = record s { children = s.children + 1; phase = Run (bound t k (thread_value (child_path s.path s.children) (prio_of t.prios p))) fs };
-      child = Some (record { path = child_path s.path s.children; prio = prio_of t.prios p; reads = 0; children = 0; phase = Fresh (record { code = inside b; scope = t.scope; prios = t.prios }) });
+      child = Some (new_thread (child_path s.path s.children) (prio_of t.prios p) (with_code t (inside b)));
     })
     else fault_step s Depth
 
@@ -96,11 +108,12 @@ sync_step s t fs k (Some b) w = join_step s t fs k b w
 
 abbrev pub call_step : State → Frame → List Frame → Body → Option Routine → List Prio → List Value' → Option Moved
 call_step s t fs k None ps vs = None
-call_step s t fs k (Some f) ps vs = go s Plain (Run (record { code = inside f.body; scope = vs; prios = map (prio_of t.prios) ps }) (record { code = k; scope = t.scope; prios = t.prios } ∷ fs))
+call_step s t fs k (Some f) ps vs = go s Plain (Run (body_called_in t f ps vs) (with_code t k ∷ fs))
 
 abbrev pub read_step : State → Frame → List Frame → Body → Option ℤ → Option Moved
 read_step s t fs k None = go s Read (Run (bound t k (left_value unit_value)) fs)
-read_step s t fs k (Some z) = Some (record { event = Read; next = record s { reads = s.reads + 1; phase = Run (bound t k (right_value (int_value z))) fs }; child = None })
+read_step s t fs k (Some z) =
+    Some (record { event = Read; next = record s { reads = s.reads + 1; phase = Run (bound t k (right_value (int_value z))) fs }; child = None })
 
 abbrev pub output_step : State → Frame → List Frame → Body → Value' → Option Moved
 output_step s t fs k (int_value z) = go s (Wrote z) (Run (bound t k unit_value) fs)
@@ -111,7 +124,7 @@ act job s t fs (ret e) k w = with_result s (result_of t.scope e) (λ v. go s Pla
 act job s t fs (spawn p b) k w = spawn_step s t fs p b k
 act job s t fs (sync x) k w = sync_step s t fs k (thread_in (slice_get t.scope x)) w
 act job s t fs (call f ps es) k w = with_results s (results_of t.scope es) (call_step s t fs k (slice_get job.program.procs f) ps)
-act job s t fs (do_block b) k w = go s Plain (Run (record { code = inside b; scope = t.scope; prios = t.prios }) (record { code = k; scope = t.scope; prios = t.prios } ∷ fs))
+act job s t fs (do_block b) k w = go s Plain (Run (with_code t (inside b)) (with_code t k ∷ fs))
 act job s t fs input k w = read_step s t fs k (slice_get (inputs_of job.inputs s.path) s.reads)
 act job s t fs (output e) k w = with_result s (result_of t.scope e) (output_step s t fs k)
 
@@ -163,7 +176,7 @@ outcome_in f = None
 
 -- a root, not started
 abbrev pub root_state : Routine → ℕ → State
-root_state m k = record { path = k ∷ []; prio = prio_of [] m.declares.own; reads = 0; children = 0; phase = Fresh (record { code = inside m.body; scope = []; prios = [] }) }
+root_state m k = new_thread (k ∷ []) (prio_of [] m.declares.own) (record { code = inside m.body; scope = []; prios = [] })
 
 -- the state of a thread after these events: the least such relation
 pub data Ran (job : Job) : List ℕ → List Event → State → Type 0 where
@@ -174,4 +187,5 @@ pub data Ran (job : Job) : List ℕ → List Event → State → Type 0 where
   alone : {p : List ℕ} {es fs : List Event} {s t : State} {m : Moved} →
       Ran job p fs t → awaits t ≡ None → step job t None ≡ Some m → es ≡ fs ++ m.event ∷ [] → s ≡ m.next → Ran job p es s
   joined : {p b : List ℕ} {es fs gs : List Event} {s t u : State} {o : Outcome'} {m : Moved} →
-      Ran job p fs t → Ran job b gs u → awaits t ≡ Some b → u.phase ≡ Ended o → step job t (Some o) ≡ Some m → es ≡ fs ++ m.event ∷ [] → s ≡ m.next → Ran job p es s
+      Ran job p fs t → Ran job b gs u → awaits t ≡ Some b → u.phase ≡ Ended o → step job t (Some o) ≡ Some m →
+      es ≡ fs ++ m.event ∷ [] → s ≡ m.next → Ran job p es s

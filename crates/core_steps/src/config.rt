@@ -5,9 +5,11 @@ ghost use Rattle.std.specs.List.{All};
 ghost use Rattle.std.specs.Option.{option_copied, option_map};
 ghost use Rattle.priml_syntax.specs.Read.{read_record};
 ghost use Rattle.priml_syntax.specs.declared.record.Record.{Record as TheRecord};
+ghost use Rattle.core_steps.specs.declared.config.CoreStop.TheVariants.{OutOfMemory};
 ghost use Rattle.core_steps.specs.Locals.{read_awaited};
 ghost use Rattle.core_steps.specs.Config.{begin, IsFinished};
-ghost use Rattle.core_steps.specs.Configs.{Advances, AreRecords, IsConfig, IsNeed, IsReady, SlotNeeds, IsWait, StandsAt, Stops, all_end, records_from, slots_of, threads_of};
+ghost use Rattle.core_steps.specs.Configs.{Advances, AreRecords, IsConfig, IsReady, IsWait, Stops, all_end, records_from, slots_of, threads_of};
+ghost use Rattle.core_steps.specs.Inside.Configs.{IsNeed, SlotNeeds, StandsAt};
 ghost use Rattle.core_steps.specs.Laws.{HasGraph, IsChecked};
 ghost use Rattle.core_steps.specs.Moves.{read_job};
 ghost use Rattle.core_steps.specs.Steps.{Job as TheJob};
@@ -37,9 +39,6 @@ pub enum CoreStop {
 }
 
 impl From<AllocError> for CoreStop {
-    ghost use Rattle.std.specs.Prelude.{◌≡◌};
-    ghost use Rattle.core_steps.specs.declared.config.CoreStop.TheVariants.{OutOfMemory};
-
     ghost from_gives = { λ _ stop. stop ≡ OutOfMemory };
 
     fn from(_: AllocError) -> CoreStop {

@@ -4,8 +4,9 @@ ghost use Rattle.std.specs.Prelude.{◌≡◌, ℕ, Some, None, IfOk, OnErr};
 ghost use Rattle.priml_syntax.specs.Tree.{ret_tail, if_tail, case_tail};
 ghost use Rattle.priml_syntax.specs.Read.{read_code, read_tail, read_term};
 ghost use Rattle.core_steps.specs.Fields.{running, read_frame, read_local, read_mode, body_at};
-ghost use Rattle.core_steps.specs.Locals.{MakesTo};
-ghost use Rattle.core_steps.specs.Moves.{CanStep, read_job};
+ghost use Rattle.core_steps.specs.Inside.Locals.{MakesTo};
+ghost use Rattle.core_steps.specs.Moves.{read_job};
+ghost use Rattle.core_steps.specs.Inside.Moves.{CanStep};
 
 use crate::given::Given;
 use crate::kinds::{Sided, side, truth};

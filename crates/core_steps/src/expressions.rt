@@ -3,9 +3,10 @@
 ghost use Rattle.std.specs.Prelude.{◌≡◌, Option, Some, map, slice_get, IfOk, IfSome, OnOk};
 ghost use Rattle.std.specs.Option.{unwrap_or};
 ghost use Rattle.priml_syntax.specs.Read.{read_value, read_term, read_outcome};
-ghost use Rattle.priml_syntax.specs.Values.{Value', Outcome', returned, bool_value, int_value, pair_value, left_value, right_value};
+ghost use Rattle.priml_syntax.specs.Values.{Value', Outcome', returned, int_value, pair_value, left_value, right_value};
 ghost use Rattle.core_steps.specs.Expressions.{result_of, results_of, gave, with_one, with_two, fst_value, snd_value, not_value, op_value};
-ghost use Rattle.core_steps.specs.Results.{GiveNumbers, read_result, read_results, collected, with_last, one_with, two_with};
+ghost use Rattle.core_steps.specs.Results.{read_result};
+ghost use Rattle.core_steps.specs.Inside.Results.{GiveNumbers, read_results, collected, with_last, one_with, two_with};
 
 use crate::kinds::number;
 use crate::numbers::{on_numbers, on_truths, truth};
@@ -244,41 +245,9 @@ fn operated(op: Op, a: Option<Outcome>, b: Option<Outcome>) -> Option<Outcome>
 fn operate(op: Op, v: &Value, w: &Value) -> Option<Outcome>
     ensures { read_result result ≡ op_value op (read_value v.now) (read_value w.now) }
 {
-    match v {
-        Value::Int(m) => beside_number(op, *m, w),
-        Value::Bool(b) => beside_truth(op, *b, w),
-        Value::Unit => None,
-        Value::Pair(_, _) => None,
-        Value::Inl(_) => None,
-        Value::Inr(_) => None,
-        Value::Thread(_, _) => None,
-    }
-}
-
-fn beside_number(op: Op, m: i64, w: &Value) -> Option<Outcome>
-    ensures { read_result result ≡ op_value op (int_value m) (read_value w.now) }
-{
-    match w {
-        Value::Int(n) => on_numbers(op, m, *n),
-        Value::Bool(_) => None,
-        Value::Unit => None,
-        Value::Pair(_, _) => None,
-        Value::Inl(_) => None,
-        Value::Inr(_) => None,
-        Value::Thread(_, _) => None,
-    }
-}
-
-fn beside_truth(op: Op, b: bool, w: &Value) -> Option<Outcome>
-    ensures { read_result result ≡ op_value op (bool_value b) (read_value w.now) }
-{
-    match w {
-        Value::Bool(c) => on_truths(op, b, *c),
-        Value::Int(_) => None,
-        Value::Unit => None,
-        Value::Pair(_, _) => None,
-        Value::Inl(_) => None,
-        Value::Inr(_) => None,
-        Value::Thread(_, _) => None,
+    match (v, w) {
+        (Value::Int(m), Value::Int(n)) => on_numbers(op, *m, *n),
+        (Value::Bool(b), Value::Bool(c)) => on_truths(op, *b, *c),
+        _ => None,
     }
 }

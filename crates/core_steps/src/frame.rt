@@ -5,7 +5,7 @@ ghost use Rattle.std.specs.Option.{option_copied, option_map};
 ghost use Rattle.priml_syntax.specs.Read.{read_code, read_value, read_proc, read_program};
 ghost use Rattle.priml_syntax.specs.Tree.{inside};
 ghost use Rattle.core_steps.specs.Fields.{read_frame, routine_at, block_at, body_at};
-ghost use Rattle.core_steps.specs.Locals.{IsComing};
+ghost use Rattle.core_steps.specs.Inside.Locals.{IsComing};
 ghost use Rattle.core_steps.specs.Places.{body_from};
 ghost use Rattle.core_steps.specs.Steps.{prio_of, thread_in};
 

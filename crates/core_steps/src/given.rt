@@ -4,7 +4,7 @@ ghost use Rattle.std.specs.Prelude.{IfOk, map};
 ghost use Rattle.priml_syntax.specs.Read.{read_value, read_term};
 ghost use Rattle.core_steps.specs.Expressions.{result_of, results_of};
 ghost use Rattle.core_steps.specs.Fields.{read_frame};
-ghost use Rattle.core_steps.specs.Locals.{IsGiven, AreGiven};
+ghost use Rattle.core_steps.specs.Inside.Locals.{IsGiven, AreGiven};
 
 use crate::expressions::{evaluate, evaluate_all};
 use crate::frame::Frame;

@@ -4,8 +4,9 @@ ghost use Rattle.std.specs.Prelude.{◌≡◌, ◌<◌, ◌^◌, Some, None, IfO
 ghost use Rattle.priml_syntax.specs.Tree.{sync};
 ghost use Rattle.priml_syntax.specs.Read.{read_outcome};
 ghost use Rattle.core_steps.specs.Fields.{running, read_frame, read_local, read_mode};
-ghost use Rattle.core_steps.specs.Locals.{IsWaiting, MakesTo};
-ghost use Rattle.core_steps.specs.Moves.{CanStep, IsNext, read_job};
+ghost use Rattle.core_steps.specs.Inside.Locals.{IsWaiting, MakesTo};
+ghost use Rattle.core_steps.specs.Moves.{read_job};
+ghost use Rattle.core_steps.specs.Inside.Moves.{CanStep, IsNext};
 ghost use Rattle.core_steps.specs.Steps.{thread_in as thread_of};
 
 use crate::frame::Coming;

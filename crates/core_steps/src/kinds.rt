@@ -2,7 +2,7 @@
 
 ghost use Rattle.std.specs.Prelude.{◌≡◌};
 ghost use Rattle.priml_syntax.specs.Read.{read_value};
-ghost use Rattle.core_steps.specs.Locals.{number_in, truth_in, side_in, IsSide};
+ghost use Rattle.core_steps.specs.Inside.Locals.{number_in, truth_in, side_in, IsSide};
 
 use priml_syntax::Value;
 
@@ -11,12 +11,7 @@ pub(crate) fn number(value: &Value) -> Option<i64>
 {
     match value {
         Value::Int(n) => Some(*n),
-        Value::Unit => None,
-        Value::Bool(_) => None,
-        Value::Pair(_, _) => None,
-        Value::Inl(_) => None,
-        Value::Inr(_) => None,
-        Value::Thread(_, _) => None,
+        _ => None,
     }
 }
 
@@ -25,12 +20,7 @@ pub(crate) fn truth(value: &Value) -> Option<bool>
 {
     match value {
         Value::Bool(b) => Some(*b),
-        Value::Unit => None,
-        Value::Int(_) => None,
-        Value::Pair(_, _) => None,
-        Value::Inl(_) => None,
-        Value::Inr(_) => None,
-        Value::Thread(_, _) => None,
+        _ => None,
     }
 }
 
@@ -47,10 +37,6 @@ pub(crate) fn side(value: Value) -> Sided
     match value {
         Value::Inl(inner) => Sided::Left(Box::into_inner(inner)),
         Value::Inr(inner) => Sided::Right(Box::into_inner(inner)),
-        Value::Unit => Sided::Wrong,
-        Value::Bool(_) => Sided::Wrong,
-        Value::Int(_) => Sided::Wrong,
-        Value::Pair(_, _) => Sided::Wrong,
-        Value::Thread(_, _) => Sided::Wrong,
+        _ => Sided::Wrong,
     }
 }

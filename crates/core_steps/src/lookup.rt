@@ -7,9 +7,11 @@ ghost use Rattle.std.specs.Option.{is_some, option_copied, option_map};
 ghost use Rattle.std.specs.Ordering.{nat_cmp, is_lt};
 ghost use Rattle.std.specs.Cmp.Lexicographic.{slice_cmp};
 ghost use Rattle.priml_syntax.specs.Read.{read_outcome};
-ghost use Rattle.core_steps.specs.Fields.{read_boxed, read_local};
+ghost use Rattle.core_steps.specs.Fields.{read_local};
+ghost use Rattle.core_steps.specs.Inside.Locals.{read_boxed};
 ghost use Rattle.core_steps.specs.Locals.{read_awaited};
-ghost use Rattle.core_steps.specs.Configs.{AreSlots, IsEnded, SlotNeeds, SlotsRise, StandsAt, StepsAt, outcome_of as the_outcome, read_slot, slot_added, slot_at, with_slot};
+ghost use Rattle.core_steps.specs.Configs.{AreSlots, SlotsRise, read_slot};
+ghost use Rattle.core_steps.specs.Inside.Configs.{IsEnded, SlotNeeds, StandsAt, StepsAt, outcome_of as the_outcome, slot_added, slot_at, with_slot};
 ghost use Rattle.core_steps.specs.declared.slot.Slot.{Slot as TheSlot};
 ghost use Rattle.core_steps.specs.Moves.{read_job};
 

@@ -22,8 +22,7 @@ pub(crate) fn on_numbers(op: Op, a: i64, b: i64) -> Option<Outcome>
         Op::Less => Some(truth(a < b)),
         Op::AtMost => Some(truth(a <= b)),
         Op::Equal => Some(truth(a == b)),
-        Op::And => None,
-        Op::Or => None,
+        Op::And | Op::Or => None,
     }
 }
 
@@ -34,14 +33,7 @@ pub(crate) fn on_truths(op: Op, a: bool, b: bool) -> Option<Outcome>
     match op {
         Op::And => Some(truth(a && b)),
         Op::Or => Some(truth(a || b)),
-        Op::Add => None,
-        Op::Sub => None,
-        Op::Mul => None,
-        Op::Div => None,
-        Op::Rem => None,
-        Op::Less => None,
-        Op::AtMost => None,
-        Op::Equal => None,
+        _ => None,
     }
 }
 

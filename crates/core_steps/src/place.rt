@@ -23,11 +23,7 @@ fn within(action: &Action) -> Option<&Block>
     match action {
         Action::Spawn(_, block) => Some(block),
         Action::Do(block) => Some(block),
-        Action::Ret(_) => None,
-        Action::Sync(_) => None,
-        Action::Call(_, _, _) => None,
-        Action::Input => None,
-        Action::Output(_) => None,
+        _ => None,
     }
 }
 
@@ -43,34 +39,16 @@ fn within_bind(block: &Block, index: usize) -> Option<&Block>
 }
 
 #[tactic(auto, using(crate::proofs::Trees::trees))]
-fn first_branch(block: &Block) -> Option<&Block>
-    ensures { option_map read_code (option_copied result) ≡ turned Turn.First (read_code block.now) }
-{
-    match &block.tail.form {
-        TailForm::If(_, first, _) => Some(first),
-        TailForm::Case(_, first, _) => Some(first),
-        TailForm::Ret(_) => None,
-    }
-}
-
-#[tactic(auto, using(crate::proofs::Trees::trees))]
-fn second_branch(block: &Block) -> Option<&Block>
-    ensures { option_map read_code (option_copied result) ≡ turned Turn.Second (read_code block.now) }
-{
-    match &block.tail.form {
-        TailForm::If(_, _, second) => Some(second),
-        TailForm::Case(_, _, second) => Some(second),
-        TailForm::Ret(_) => None,
-    }
-}
-
 fn into_block(block: &Block, turn: Turn) -> Option<&Block>
     ensures { option_map read_code (option_copied result) ≡ turned turn (read_code block.now) }
 {
-    match turn {
-        Turn::Bind(index) => within_bind(block, index),
-        Turn::First => first_branch(block),
-        Turn::Second => second_branch(block),
+    match (turn, &block.tail.form) {
+        (Turn::Bind(index), _) => within_bind(block, index),
+        (Turn::First, TailForm::If(_, first, _)) => Some(first),
+        (Turn::First, TailForm::Case(_, first, _)) => Some(first),
+        (Turn::Second, TailForm::If(_, _, second)) => Some(second),
+        (Turn::Second, TailForm::Case(_, _, second)) => Some(second),
+        (_, TailForm::Ret(_)) => None,
     }
 }
 

@@ -7,8 +7,10 @@ ghost use Rattle.std.specs.declared.alloc.Global.{Global as TheGlobal};
 ghost use Rattle.priml_syntax.specs.Read.{read_outcome, read_record};
 ghost use Rattle.priml_syntax.specs.declared.record.Record.{Record as TheRecord};
 ghost use Rattle.core_steps.specs.Fields.{read_local, read_mode};
-ghost use Rattle.core_steps.specs.Locals.{IsFed, IsLocal, MakesTo, ended_with, read_awaited};
-ghost use Rattle.core_steps.specs.Configs.{IsCounted, JoinsAt, all_end, entry_from, read_slot, records_from, thread_of};
+ghost use Rattle.core_steps.specs.Locals.{IsFed, IsLocal, ended_with, read_awaited};
+ghost use Rattle.core_steps.specs.Inside.Locals.{MakesTo};
+ghost use Rattle.core_steps.specs.Configs.{IsCounted, all_end, entry_from, read_slot, records_from, thread_of};
+ghost use Rattle.core_steps.specs.Inside.Configs.{JoinsAt};
 ghost use Rattle.core_steps.specs.Moves.{read_job};
 ghost use Rattle.core_steps.specs.Steps.{root_state};
 

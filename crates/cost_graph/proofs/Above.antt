@@ -12,7 +12,8 @@ use Rattle.cost_graph.specs.Walks.{Leads, Reaches, ProperlyReaches, HasNoCycle}
 use Rattle.cost_graph.specs.Graph.{CostGraph, vertex_total, parents_at, children_at, is_edge, Edge, IsAcyclic}
 use Rattle.cost_graph.proofs.Walks.{last_edge_of, reaches_on}
 use Rattle.cost_graph.proofs.Visits.{numbers_below}
-use Rattle.cost_graph.specs.Order.{IsTopological, IsSortedOrStuck, HasWay, AreMarked}
+use Rattle.cost_graph.specs.Order.{IsTopological, IsSortedOrStuck, AreMarked}
+use Rattle.cost_graph.specs.Inside.Order.{HasWay}
 use Rattle.cost_graph.proofs.Members.{decides_eq, no_member, member_cons, member_head, distinct_right, distinct_apart, in_drop}
 use Rattle.cost_graph.proofs.ReadyNext.{child_of, parent_of_child, edge_in}
 

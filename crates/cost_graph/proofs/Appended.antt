@@ -1,12 +1,12 @@
 -- Lines that are added one after another.
-use Rattle.std.proofs.Common.{◌≡◌, ◌≢◌, ℕ, ◌+◌, ◌-◌, ◌<◌, Bool, cond, List, [], ◌∷◌, ◌++◌, length, take, get_or, eq-eqb, sym, ap, ◌∙◌, subst, arith, add-one}
-use Rattle.std.specs.Prelude.{nat_eq, not, codes, if◌then◌else◌}
+use Rattle.std.proofs.Common.{◌≡◌, ◌≢◌, ℕ, ◌+◌, ◌-◌, ◌<◌, Bool, List, [], ◌∷◌, ◌++◌, length, get_or, sym, ap, ◌∙◌, subst, arith, add-one}
+use Rattle.std.specs.Prelude.{nat_eq, codes, if◌then◌else◌}
 use Rattle.std.specs.List.{Contains, flat_map, range_with_len}
 use Rattle.std.proofs.lemmas.Bool.{ne_eqb}
 use Rattle.std.proofs.lemmas.Grind.{flat_map-append}
-use Rattle.std.proofs.lemmas.List.{append-nil, append_assoc, take_more}
+use Rattle.std.proofs.lemmas.List.{append-nil, append_assoc}
 use Rattle.std.proofs.lemmas.List.Concat.{flat_map-cons}
-use Rattle.std.proofs.lemmas.List.Elements.{Contains-get_or, filter-append}
+use Rattle.std.proofs.lemmas.List.Elements.{Contains-get_or}
 use Rattle.cost_graph.specs.Graph.{CostGraph, Vertex, vertex_total, parents_at, first_vertex, IsOwner, IsGraph}
 use Rattle.cost_graph.specs.Text.{edge_line, joins_to, join_lines}
 use Rattle.cost_graph.proofs.Names.{owned_name}
@@ -19,23 +19,6 @@ pub range_lines : (f : ℕ → List ℕ) (n : ℕ) → flat_map f (range_with_le
 range_lines f n =
     let e : 0 + n ≡ n = omega arith in
     rw add-one (ap (flat_map f) (range_push 0 n ∙ ap (λ x. range_with_len 0 n ++ x ∷ []) e) ∙ flat_map-append f (range_with_len 0 n) (n ∷ []) ∙ ap (λ l. flat_map f (range_with_len 0 n) ++ l) (one_line f n))
-
-pub take_lines : {X : Type 0} (f : X → List ℕ) (xs : List X) (i : ℕ) (d : X) → i < length xs → flat_map f (take (i + 1) xs) ≡ flat_map f (take i xs) ++ f (get_or xs i d)
-take_lines f xs i d lt =
-    ap (flat_map f) (take_more xs i d lt) ∙ flat_map-append f (take i xs) (get_or xs i d ∷ []) ∙ ap (λ l. flat_map f (take i xs) ++ l) (one_line f (get_or xs i d))
-
-pub joins_more : (f : ℕ → List ℕ) (v : ℕ) (ps : List ℕ) (i : ℕ) → i < length ps
-    → flat_map f (joins_to v (take (i + 1) ps)) ≡ flat_map f (joins_to v (take i ps)) ++ flat_map f (joins_to v (get_or ps i 0 ∷ []))
-joins_more f v ps i lt =
-    ap (λ l. flat_map f (joins_to v l)) (take_more ps i 0 lt)
-    ∙ ap (flat_map f) (filter-append (λ u. not (nat_eq (u + 1) v)) (take i ps) (get_or ps i 0 ∷ []))
-    ∙ flat_map-append f (joins_to v (take i ps)) (joins_to v (get_or ps i 0 ∷ []))
-
-pub other_none : (v p : ℕ) → p + 1 ≡ v → joins_to v (p ∷ []) ≡ []
-other_none v p e = ap (λ (b : Bool). cond (not b) (p ∷ []) []) (eq-eqb (p + 1) v e)
-
-pub other_some : (v p : ℕ) → p + 1 ≢ v → joins_to v (p ∷ []) ≡ p ∷ []
-other_some v p n = ap (λ (b : Bool). cond (not b) (p ∷ []) []) (ne_eqb (p + 1) v n)
 
 pub join_first : (g : CostGraph) (v t : ℕ) → IsOwner g v t → first_vertex g t ≡ v → join_lines g v ≡ []
 join_first g v t own e = ap (λ (w : Vertex). if nat_eq w.number 0 then [] else flat_map (edge_line g (codes "join") v) (joins_to v (parents_at g v))) (owned_name g v t 0 own (omega (arith, e)))

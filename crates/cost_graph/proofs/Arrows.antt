@@ -10,7 +10,7 @@ use Rattle.priml_syntax.specs.Paths.{child_path}
 use Rattle.priml_syntax.specs.Events.{spawns}
 use Rattle.cost_graph.specs.Graph.{Vertex, name_in}
 use Rattle.cost_graph.specs.Records.{Part, part_at, end_of, IsVertex, Continues, Spawns, Joins, IsEdge, AreFinished, thread_of}
-use Rattle.cost_graph.specs.Tables.{part_nth, first_in, vertex_at, IsNumber, AreParents, IsSpawnPlace, IsKthSpawn, HasSpawn, ArePair}
+use Rattle.cost_graph.specs.Inside.Tables.{part_nth, first_in, vertex_at, IsNumber, AreParents, IsSpawnPlace, IsKthSpawn, HasSpawn, ArePair}
 use Rattle.cost_graph.proofs.Members.{no_member, member_cons, member_head, member_tail}
 use Rattle.cost_graph.proofs.Parts.{AreApart, part_found, part_here, part_among, nth_among, one_part, part_of_member, number_at, number_named, one_number}
 use Rattle.cost_graph.proofs.Spawns.{one_place}

@@ -11,7 +11,7 @@ use Rattle.cost_graph.specs.declared.graph.Thread.{Thread}
 use Rattle.cost_graph.specs.Walks.{Leads, Reaches}
 use Rattle.cost_graph.specs.Graph.{CostGraph, Edge, Vertex, no_thread, vertex_total, thread_total, thread_at, first_vertex, last_vertex, vertex_priority, name_of, name_in, IsGraph, IsOwner, IsAncestor, IsAcyclic, IsWellFormed}
 use Rattle.cost_graph.specs.Records.{Part, part_at, event_total, thread_of, start_of, end_of, IsVertex, IsEdge, IsAcyclicGraph, IsWellFormedGraph, IsGraphOf}
-use Rattle.cost_graph.specs.Tables.{part_nth, first_in, IsNumber}
+use Rattle.cost_graph.specs.Inside.Tables.{part_nth, first_in, IsNumber}
 use Rattle.cost_graph.proofs.Threads.{owner_priority}
 use Rattle.cost_graph.proofs.Ends.{last_below, thread_within}
 use Rattle.cost_graph.proofs.Members.{no_member}

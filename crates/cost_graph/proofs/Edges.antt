@@ -12,7 +12,7 @@ use Rattle.priml_syntax.specs.Paths.{same_path, child_path}
 use Rattle.priml_syntax.proofs.Orders.{same_path_is, same_path_refl}
 use Rattle.cost_graph.specs.Graph.{Vertex, name_in}
 use Rattle.cost_graph.specs.Records.{Part, part_at, event_total, thread_of, IsVertex, Continues, Spawns, Joins, IsEdge}
-use Rattle.cost_graph.specs.Tables.{AreParents}
+use Rattle.cost_graph.specs.Inside.Tables.{AreParents}
 use Rattle.cost_graph.proofs.Members.{no_member, member_cons, member_head, member_tail}
 use Rattle.cost_graph.proofs.Parts.{one_part, number_small, number_named, numbered}
 

@@ -75,9 +75,6 @@ added_on old now next ps i v rising lt small before e u = ap (λ l. get_or l u [
 pub list_at : (xs : List (Vec ℕ Global)) (i : ℕ) (x : Vec ℕ Global) → i < length xs → x ≡ get_or xs i x → get_or (lists xs) i [] ≡ x.items
 list_at xs i x lt e = get_or-map (λ (l : Vec ℕ Global). l.items) xs i x [] lt ∙ ap (λ (l : Vec ℕ Global). l.items) (sym e)
 
-pub lists_set : (xs : List (Vec ℕ Global)) (i : ℕ) (x : Vec ℕ Global) → lists (set xs i x) ≡ set (lists xs) i x.items
-lists_set xs i x = map-set (λ (l : Vec ℕ Global). l.items) xs i x
-
 pub lists_length : (xs : List (Vec ℕ Global)) → length (lists xs) ≡ length xs
 lists_length xs = length-map xs (λ (l : Vec ℕ Global). l.items)
 

@@ -13,8 +13,8 @@ use Rattle.priml_syntax.specs.Events.{one_spawn, spawns}
 use Rattle.priml_syntax.specs.Read.{read_record}
 use Rattle.priml_syntax.specs.Records.{InPathOrder}
 use Rattle.cost_graph.specs.Records.{Part, part_of, parts_in, part_at, event_total, IsThere, HasRoots, AreFinished}
-use Rattle.cost_graph.specs.Tables.{part_nth, first_in, HasSpawn}
-use Rattle.cost_graph.specs.Finished.{Fits, AreEventsFit, HasSpawner, IsPartFinished}
+use Rattle.cost_graph.specs.Inside.Tables.{part_nth, first_in, HasSpawn}
+use Rattle.cost_graph.specs.Inside.Finished.{Fits, HasSpawner, IsPartFinished}
 use Rattle.cost_graph.proofs.Members.{decides_eq}
 use Rattle.cost_graph.proofs.Parts.{AreApart, parts_length, nth_of, apart_in, part_here, part_found, part_among, nth_among, part_of_member, events_few, first_more}
 use Rattle.cost_graph.proofs.Arrows.{child_same}
@@ -33,13 +33,8 @@ spawns_short [] = omega arith
 spawns_short (e ∷ es) = omega (arith, one_at_most e, spawns_short es)
   where
     one_at_most : (e : Event) → one_spawn e ≤ 1
-    one_at_most Start = omega arith
-    one_at_most Plain = omega arith
     one_at_most Spawn = omega arith
-    one_at_most (Join p) = omega arith
-    one_at_most Read = omega arith
-    one_at_most (Wrote n) = omega arith
-    one_at_most End = omega arith
+    one_at_most e = omega arith
 
 last_apart : (p : List ℕ) (depth : ℕ) → length p ≡ depth + 1 → p ≡ child_path (take depth p) (get_or p depth 0)
 last_apart p depth long = sym (take_all (depth + 1) p (omega (arith, long))) ∙ take_more p depth 0 (omega (arith, long))
@@ -181,9 +176,6 @@ fit_on xs es n e lt is before here k f k_lt at =
           let is_f : e ≡ f = cc in
           subst (λ (x : Event). Fits xs x (nat_eq k 0) (nat_eq (k + 1) (length es))) is_f (subst (λ j. Fits xs e (nat_eq j 0) (nat_eq (j + 1) (length es))) same here)
     ]
-
-pub fit_all : (xs : List Part) (es : List Event) (n : ℕ) → length es ≤ n → 0 < length es → ((k : ℕ) (f : Event) → k < n → slice_get es k ≡ Some f → Fits xs f (nat_eq k 0) (nat_eq (k + 1) (length es))) → AreEventsFit xs es
-fit_all xs es n le some h = record { some = some; each = λ k f at. h k f (omega (arith, slice_get_within es k f at, le)) at }
 
 pub finished_on : (rs : List Record) (i : ℕ) (r : Record) → i < length rs → r ≡ get_or rs i r → ((t : ℕ) → t < i → IsPartFinished (parts_in rs) (part_nth (parts_in rs) t)) → IsPartFinished (parts_in rs) (part_of (read_record r))
     → (t : ℕ) → t < i + 1 → IsPartFinished (parts_in rs) (part_nth (parts_in rs) t)

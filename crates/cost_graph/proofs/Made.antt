@@ -19,7 +19,7 @@ use Rattle.cost_graph.specs.declared.records.Tables.{Tables}
 use Rattle.cost_graph.specs.Graph.{Vertex, thread_at, first_vertex, name_in, IsGraph}
 use Rattle.cost_graph.specs.View.{lists, graph_of}
 use Rattle.cost_graph.specs.Records.{Part, part_of, parts_of, parts_in, part_at, event_total, end_of, thread_of, AreFinished, IsEdge, IsGraphOf}
-use Rattle.cost_graph.specs.Tables.{part_nth, first_in, vertex_at, IsNumber, AreParents, AreRight, AreSpawnPlaces, AreFirstsOf, AreKnown}
+use Rattle.cost_graph.specs.Inside.Tables.{part_nth, first_in, vertex_at, IsNumber, AreParents, AreRight, AreSpawnPlaces, AreFirstsOf, AreKnown}
 use Rattle.cost_graph.proofs.Members.{no_member}
 use Rattle.cost_graph.proofs.Grown.{list_at, lists_length}
 use Rattle.cost_graph.proofs.Parts.{AreApart, parts_length, nth_of, apart_in, apart_of, threads_in_order, part_here, one_part, events_few, firsts_same, totals_same, thread_nth, number_small, number_at, number_named, numbered, name_at}

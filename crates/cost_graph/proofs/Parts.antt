@@ -15,7 +15,7 @@ use Rattle.priml_syntax.proofs.Orders.{irreflexive, same_path_is, same_path_refl
 use Rattle.cost_graph.specs.declared.graph.Thread.{Thread}
 use Rattle.cost_graph.specs.Graph.{Vertex, no_thread, name_in, AreInOrder}
 use Rattle.cost_graph.specs.Records.{Part, part_of, parts_of, parts_in, part_at, event_total, thread_of, IsThere}
-use Rattle.cost_graph.specs.Tables.{no_part, part_nth, first_in, vertex_at, IsNumber}
+use Rattle.cost_graph.specs.Inside.Tables.{no_part, part_nth, first_in, vertex_at, IsNumber}
 use Rattle.cost_graph.proofs.Members.{member_head, member_tail}
 use Rattle.cost_graph.proofs.Names.{name_here}
 

@@ -9,7 +9,7 @@ use Rattle.priml_syntax.specs.Read.{read_record}
 use Rattle.priml_syntax.specs.Values.{Entry}
 use Rattle.priml_syntax.specs.Records.{InPathOrder}
 use Rattle.cost_graph.specs.Records.{Part, part_of, parts_of, parts_in, part_at, IsThere, HasRoots}
-use Rattle.cost_graph.specs.Tables.{part_nth}
+use Rattle.cost_graph.specs.Inside.Tables.{part_nth}
 use Rattle.cost_graph.proofs.Parts.{AreApart, parts_length, apart_of, parts_rise, part_found, part_here}
 
 -- a thread stands at some place

@@ -12,7 +12,7 @@ use Rattle.cost_graph.specs.declared.graph.Thread.{Thread}
 use Rattle.cost_graph.specs.Graph.{CostGraph, Edge, Vertex, vertex_total, thread_at, parents_at, first_vertex, name_of}
 use Rattle.cost_graph.specs.Records.{Part, part_at, IsVertex, Spawns, Joins, IsEdge, AreFinished, IsGraphOf}
 use Rattle.cost_graph.specs.RecordLines.{IsLineOf, HasLinesOf}
-use Rattle.cost_graph.specs.Tables.{part_nth, first_in, vertex_at, IsNumber, IsSpawnPlace}
+use Rattle.cost_graph.specs.Inside.Tables.{part_nth, first_in, vertex_at, IsNumber, IsSpawnPlace}
 use Rattle.cost_graph.specs.Text.{edge_text, edge_line, spawn_lines, joins_to, join_lines}
 use Rattle.cost_graph.proofs.Members.{no_member, member_head, member_tail}
 use Rattle.cost_graph.proofs.Ranges.{in_filter, from_filter, out_filter}

@@ -3,7 +3,7 @@ use Rattle.std.proofs.Common.{◌≡◌, ℕ, zero, suc, ◌<◌, List, [], ◌�
 use Rattle.std.proofs.lemmas.List.{length-append}
 use Rattle.cost_graph.specs.Graph.{name_in}
 use Rattle.cost_graph.specs.Records.{Part, parts_of, event_total, thread_of}
-use Rattle.cost_graph.specs.Tables.{AreParents}
+use Rattle.cost_graph.specs.Inside.Tables.{AreParents}
 use Rattle.cost_graph.specs.Laws.{SomeGraph}
 use Rattle.cost_graph.proofs.Edges.{parents_known}
 use Rattle.cost_graph.proofs.Made.{each_more, made_of}

@@ -13,7 +13,8 @@ use Rattle.std.proofs.lemmas.Map.Made.{is_member-Decides, length-le_from_is_memb
 use Rattle.std.proofs.lemmas.Map.Steps.{length-le_from_distinct_below}
 use Rattle.std.proofs.lemmas.List.FromFn.{length-range_with_len}
 use Rattle.cost_graph.specs.Graph.{CostGraph, vertex_total, parents_at, children_at, is_edge, Edge, IsGraph}
-use Rattle.cost_graph.specs.Marks.{is_free, IsSeen, IsDone, IsReady, freed_by, unmarked}
+use Rattle.cost_graph.specs.Marks.{IsSeen, IsDone, IsReady}
+use Rattle.cost_graph.specs.Inside.Marks.{is_free, freed_by, unmarked}
 use Rattle.cost_graph.specs.Order.{IsTopological, IsBehindCycle, IsBeforeCycles, IsSortedOrStuck}
 use Rattle.cost_graph.proofs.Members.{decides_eq, member_or_not, no_member, member_cons, member_head, member_tail, distinct_right, distinct_apart, distinct_filter, distinct_join, parents_seen, in_drop, no_member_short, short_from_none}
 use Rattle.cost_graph.proofs.Visits.{numbers_below}

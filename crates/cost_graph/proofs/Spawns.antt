@@ -8,7 +8,7 @@ use Rattle.std.proofs.Math.ListN.{get_or-append}
 use Rattle.priml_syntax.specs.declared.event.Event.{Event}
 use Rattle.priml_syntax.specs.declared.event.Event.TheVariants.{Start, Plain, Spawn, Join, Read, Wrote, End}
 use Rattle.priml_syntax.specs.Events.{one_spawn, spawns}
-use Rattle.cost_graph.specs.Tables.{IsSpawnPlace, AreSpawnPlaces}
+use Rattle.cost_graph.specs.Inside.Tables.{IsSpawnPlace, AreSpawnPlaces}
 
 -- the Spawns before one event more
 pub spawns_more : (es : List Event) (n : ℕ) (d : Event) → n < length es → spawns (take (n + 1) es) ≡ spawns (take n es) + one_spawn (get_or es n d)

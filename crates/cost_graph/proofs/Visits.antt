@@ -7,7 +7,8 @@ use Rattle.std.proofs.lemmas.List.Folds.{list_all_at}
 use Rattle.std.proofs.lemmas.List.{get_or-set_same, get_or-set_other, length-set, append-nil}
 use Rattle.std.proofs.lemmas.Bool.{cases_eq, cond-true, cond-false}
 use Rattle.cost_graph.specs.Graph.{CostGraph, vertex_total, parents_at, children_at, is_edge, IsGraph}
-use Rattle.cost_graph.specs.Marks.{is_marked, is_free, IsSeen}
+use Rattle.cost_graph.specs.Marks.{is_marked, IsSeen}
+use Rattle.cost_graph.specs.Inside.Marks.{is_free}
 
 range_below : (a n : ℕ) → All (λ v. v < a + n) (range_with_len a n)
 range_below a zero = All-nil (λ v. v < a + 0)

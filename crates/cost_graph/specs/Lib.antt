@@ -6,8 +6,7 @@ pub mod Order
 pub mod View
 pub mod Records
 pub mod Text
-pub mod Tables
 pub mod RecordLines
-pub mod Finished
 pub mod Shape
 pub mod Laws
+pub mod Inside

@@ -1,7 +1,7 @@
 -- What is ready; marks on the vertices that have run, and what a step frees.
-use Rattle.std.specs.Prelude.{◌≡◌, ℕ, ◌<◌, ◌≤◌, ◌↔◌, List, [], ◌∷◌, ◌++◌, length, get_or, set, Bool, false, true, cond}
-use Rattle.std.specs.List.{list_all, filter, sum_by, Contains}
-use Rattle.cost_graph.specs.Graph.{CostGraph, Edge, vertex_total, parents_at, children_at}
+use Rattle.std.specs.Prelude.{◌≡◌, ℕ, ◌<◌, ◌≤◌, ◌↔◌, List, [], ◌∷◌, length, get_or, set, Bool, false, true}
+use Rattle.std.specs.List.{Contains}
+use Rattle.cost_graph.specs.Graph.{CostGraph, Edge, vertex_total, parents_at}
 
 -- v has not run, and each vertex with an edge to it has
 pub record IsReady (g : CostGraph) (done : List ℕ) (v : ℕ) : Type 0 where
@@ -15,10 +15,6 @@ BecomesReady g before after v = IsReady g after v × (IsReady g before v → ⊥
 
 abbrev pub is_marked : List Bool → ℕ → Bool
 is_marked marks v = get_or marks v false
-
--- each parent of v is marked
-abbrev pub is_free : CostGraph → List Bool → ℕ → Bool
-is_free g marks v = list_all (is_marked marks) (parents_at g v)
 
 -- of the parents of each vertex the first ones, as many as `seen` says, are marked
 pub record IsSeen (g : CostGraph) (marks : List Bool) (seen : List ℕ) : Type 0 where
@@ -37,12 +33,3 @@ pub record IsDone (g : CostGraph) (marks : List Bool) (done : List ℕ) : Type 0
 abbrev pub marks_after : List Bool → List ℕ → List Bool
 marks_after marks [] = marks
 marks_after marks (v ∷ vs) = marks_after (set marks v true) vs
-
--- the vertices that these free, one after the other
-abbrev pub freed_by : CostGraph → List Bool → List ℕ → List ℕ
-freed_by g marks [] = []
-freed_by g marks (v ∷ vs) = filter (is_free g (set marks v true)) (children_at g v) ++ freed_by g (set marks v true) vs
-
--- how many marks are not set
-abbrev pub unmarked : List Bool → ℕ
-unmarked marks = sum_by (λ b. cond b 0 1) marks

@@ -24,10 +24,6 @@ pub record IsBeforeCycles (g : CostGraph) (order : List ℕ) : Type 0 where
   pub after : (i u : ℕ) → i < length order → Edge g u (get_or order i 0) → Contains (take i order) u
   pub once : IsDistinct nat_eq order
 
--- one of the numbers is the target, or is marked
-abbrev pub HasWay : List Bool → List ℕ → ℕ → Type 0
-HasWay marks numbers target = (n : ℕ) × Contains numbers n × ((n ≡ target) ⊎ (get_or marks n false ≡ true))
-
 -- the vertices with the property are marked, and no others
 pub record AreMarked (g : CostGraph) (P : ℕ → Type 0) (marks : List Bool) : Type 0 where
   pub covers : length marks ≡ vertex_total g

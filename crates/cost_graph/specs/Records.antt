@@ -44,12 +44,17 @@ Continues xs u v = IsVertex xs v × (u.path ≡ v.path) × (v.number ≡ u.numbe
 -- from a Spawn to vertex 0 of the child, where the child has begun
 abbrev pub Spawns : List Part → Vertex → Vertex → Type 0
 Spawns xs u v =
-    (x : Part) × (part_at xs u.path ≡ Some x) × (slice_get x.events u.number ≡ Some Spawn) × IsVertex xs v × (v.path ≡ child_path u.path (spawns (take u.number x.events))) × (v.number ≡ 0)
+    (x : Part) × (part_at xs u.path ≡ Some x) × (slice_get x.events u.number ≡ Some Spawn) × IsVertex xs v
+    × (v.path ≡ child_path u.path (spawns (take u.number x.events))) × (v.number ≡ 0)
+
+-- the last vertex of the thread y
+abbrev pub IsLastOf : Part → Vertex → Type 0
+IsLastOf y u = length y.events ≡ u.number + 1
 
 -- from a thread's last vertex to each Join of it
 abbrev pub Joins : List Part → Vertex → Vertex → Type 0
 Joins xs u v =
-    (x : Part) × (y : Part) × (part_at xs v.path ≡ Some x) × (slice_get x.events v.number ≡ Some (Join u.path)) × (part_at xs u.path ≡ Some y) × (length y.events ≡ u.number + 1)
+    (x : Part) × (y : Part) × (part_at xs v.path ≡ Some x) × (slice_get x.events v.number ≡ Some (Join u.path)) × (part_at xs u.path ≡ Some y) × IsLastOf y u
 
 abbrev pub IsEdge : List Part → Vertex → Vertex → Type 0
 IsEdge xs u v = Continues xs u v ⊎ Spawns xs u v ⊎ Joins xs u v

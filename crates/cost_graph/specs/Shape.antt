@@ -15,10 +15,6 @@ pub record IsUnfit (g : CostGraph) (pairs : List (ℕ × ℕ)) (t u : ℕ) : Typ
   pub apart : IsAncestor g u (first_vertex g t) → ⊥
   pub higher : AtMost pairs (thread_at g t).priority (vertex_priority g u) → ⊥
 
--- u does not show that thread t is not well formed
-abbrev pub IsFit : CostGraph → List (ℕ × ℕ) → ℕ → ℕ → Type 0
-IsFit g pairs t u = IsAncestor g u (last_vertex g t) → (IsAncestor g u (first_vertex g t) → ⊥) → AtMost pairs (thread_at g t).priority (vertex_priority g u)
-
 -- u is the first vertex that does
 pub record IsFirstUnfit (g : CostGraph) (pairs : List (ℕ × ℕ)) (t u : ℕ) : Type 0 where
   pub is : IsUnfit g pairs t u

@@ -36,7 +36,14 @@ joins_to v = filter (λ u. not (nat_eq (u + 1) v))
 abbrev pub join_lines : CostGraph → ℕ → List ℕ
 join_lines g v = if nat_eq (name_of g v).number 0 then [] else flat_map (edge_line g (codes "join") v) (joins_to v (parents_at g v))
 
--- the threads in the order of their paths, then the spawn edges in the order of the threads, then the join edges in that
--- of the vertices that they lead to
+-- the spawn edges in the order of the threads
+abbrev pub all_spawn_lines : CostGraph → List ℕ
+all_spawn_lines g = flat_map (spawn_lines g) (range_with_len 0 (thread_total g))
+
+-- the join edges in the order of the vertices that they lead to
+abbrev pub all_join_lines : CostGraph → List ℕ
+all_join_lines g = flat_map (join_lines g) (range_with_len 0 (vertex_total g))
+
+-- the threads in the order of their paths, then the spawn edges, then the join edges
 abbrev pub graph_lines : CostGraph → List (List ℕ) → List ℕ
-graph_lines g names = flat_map (thread_line names) g.threads ++ flat_map (spawn_lines g) (range_with_len 0 (thread_total g)) ++ flat_map (join_lines g) (range_with_len 0 (vertex_total g))
+graph_lines g names = flat_map (thread_line names) g.threads ++ all_spawn_lines g ++ all_join_lines g

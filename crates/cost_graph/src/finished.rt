@@ -4,8 +4,8 @@ ghost use Rattle.priml_syntax.specs.Events.{one_spawn, spawns};
 ghost use Rattle.priml_syntax.specs.Read.{read_record};
 ghost use Rattle.priml_syntax.specs.Records.{InPathOrder};
 ghost use Rattle.cost_graph.specs.Records.{part_of, parts_in, event_total, IsThere, HasRoots, AreFinished};
-ghost use Rattle.cost_graph.specs.Tables.{HasSpawn};
-ghost use Rattle.cost_graph.specs.Finished.{IsPartFinished, HasSpawner, HasChildren, AreEventsFit, Fits};
+ghost use Rattle.cost_graph.specs.Inside.Tables.{HasSpawn};
+ghost use Rattle.cost_graph.specs.Inside.Finished.{IsPartFinished, HasSpawner, HasChildren, AreEventsFit, Fits};
 
 use crate::records::search;
 use priml_syntax::{Event, Record, Records};

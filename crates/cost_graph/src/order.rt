@@ -1,7 +1,8 @@
 ghost use Rattle.std.specs.Prelude.{◌≡◌, ◌<◌, ◌++◌, length, OnOk, IfOk, MatchBool, true, slice_set, slice_index};
 ghost use Rattle.std.specs.List.{filter};
 ghost use Rattle.cost_graph.specs.Graph.{vertex_total, children_at, Edge, IsAcyclic};
-ghost use Rattle.cost_graph.specs.Marks.{IsSeen, is_free};
+ghost use Rattle.cost_graph.specs.Marks.{IsSeen};
+ghost use Rattle.cost_graph.specs.Inside.Marks.{is_free};
 ghost use Rattle.cost_graph.specs.Order.{IsCyclic, IsBeforeCycles, IsSortedOrStuck};
 
 use crate::graph::Graph;

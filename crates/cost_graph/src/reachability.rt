@@ -1,7 +1,8 @@
 ghost use Rattle.std.specs.Prelude.{◌≡◌, ℕ, ◌<◌, ◌↔◌, length, get_or, IfOk, IsTrue, true, false};
 ghost use Rattle.std.specs.List.{All};
 ghost use Rattle.cost_graph.specs.Graph.{vertex_total, IsAcyclic, IsProperAncestor};
-ghost use Rattle.cost_graph.specs.Order.{IsTopological, HasWay, AreMarked};
+ghost use Rattle.cost_graph.specs.Order.{IsTopological, AreMarked};
+ghost use Rattle.cost_graph.specs.Inside.Order.{HasWay};
 
 use crate::graph::Graph;
 use std::alloc::{AllocError, Global};

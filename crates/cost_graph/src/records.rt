@@ -8,7 +8,7 @@ ghost use Rattle.cost_graph.specs.Graph.{CostGraph, IsAcyclic, IsWellFormed};
 ghost use Rattle.cost_graph.specs.View.{lists};
 ghost use Rattle.cost_graph.specs.RecordLines.{HasLinesOf};
 ghost use Rattle.cost_graph.specs.Records.{part_of, parts_in, event_total, end_of, thread_of, IsThere, AreFinished, IsGraphOf, IsAcyclicGraph, IsWellFormedGraph, part_at, Part};
-ghost use Rattle.cost_graph.specs.Tables.{part_nth, first_in, vertex_at, IsNumber, AreParents, AreRight, AreSpawnPlaces, AreSpawnLists, AreKnown, IsKthSpawn, HasSpawn, ArePair};
+ghost use Rattle.cost_graph.specs.Inside.Tables.{part_nth, first_in, vertex_at, IsNumber, AreParents, AreRight, AreSpawnPlaces, AreSpawnLists, AreKnown, IsKthSpawn, HasSpawn, ArePair};
 
 use crate::build::firsts_of;
 use crate::graph::{Graph, Thread};

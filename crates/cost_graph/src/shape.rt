@@ -5,7 +5,8 @@ ghost use Rattle.cost_graph.specs.declared.graph.Thread.{Thread as TheThread};
 ghost use Rattle.cost_graph.specs.declared.stop.ShapeStop.TheVariants.{TooLarge};
 ghost use Rattle.cost_graph.specs.Graph.{vertex_total, thread_total, first_vertex, last_vertex, IsAcyclic, IsAncestor, IsProperAncestor, IsWellFormed, IsThreadWellFormed};
 ghost use Rattle.cost_graph.specs.Order.{IsTopological, AreMarked};
-ghost use Rattle.cost_graph.specs.Shape.{most_looks, IsShape, IsUnfit, IsFit, IsFirstUnfit};
+ghost use Rattle.cost_graph.specs.Shape.{most_looks, IsShape, IsUnfit, IsFirstUnfit};
+ghost use Rattle.cost_graph.specs.Inside.Shape.{IsFit};
 
 use crate::graph::Graph;
 use crate::order::topological;

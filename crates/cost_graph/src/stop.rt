@@ -1,3 +1,6 @@
+ghost use Rattle.std.specs.Prelude.{◌≡◌};
+ghost use Rattle.cost_graph.specs.declared.stop.ShapeStop.TheVariants.{OutOfMemory};
+
 use std::alloc::AllocError;
 
 /// Whether a graph is well formed.
@@ -18,9 +21,6 @@ pub enum ShapeStop {
 }
 
 impl From<AllocError> for ShapeStop {
-    ghost use Rattle.std.specs.Prelude.{◌≡◌};
-    ghost use Rattle.cost_graph.specs.declared.stop.ShapeStop.TheVariants.{OutOfMemory};
-
     ghost from_gives = { λ _ stop. stop ≡ OutOfMemory };
 
     fn from(_: AllocError) -> ShapeStop {

@@ -32,7 +32,8 @@ AddsPath known path false later = (k : ℕ) × (slice_get known k ≡ Some path)
 -- a line gives nothing, or it gives numbers to a path that no earlier line has
 abbrev pub AddsLine : List ℕ → List (List ℕ × List ℤ) → List (List ℕ × List ℤ) → Type 0
 AddsLine line lists later =
-    (IsInputLine line None × (later ≡ lists)) ⊎ ((given : List ℕ × List ℤ) × IsInputLine line (Some given) × IsNoneOf given.0 lists × (later ≡ lists ++ given ∷ []))
+    (IsInputLine line None × (later ≡ lists))
+    ⊎ ((given : List ℕ × List ℤ) × IsInputLine line (Some given) × IsNoneOf given.0 lists × (later ≡ lists ++ given ∷ []))
 
 -- why line k stops the reading
 abbrev pub StopsAt : ℕ → List ℕ → List (List ℕ × List ℤ) → InputFault → Type 0

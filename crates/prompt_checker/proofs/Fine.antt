@@ -4,7 +4,6 @@ use Rattle.std.specs.Prelude.{nat_eq}
 use Rattle.std.specs.List.{concat, Contains, IsDistinct}
 use Rattle.std.proofs.lemmas.Bool.{cases_lt}
 use Rattle.std.proofs.lemmas.List.{get_or_default, append-nil, take-append-drop}
-use Rattle.std.proofs.lemmas.List.Elements.{Contains-append_cases}
 use Rattle.std.proofs.Math.Seq.{take-suc, take-length, drop-cons}
 use Rattle.cost_graph.specs.Graph.{CostGraph, vertex_total, parents_at}
 use Rattle.cost_graph.proofs.Members.{distinct_left, distinct_apart, distinct_join, parents_seen, no_member, member_cons, member_head}
@@ -12,7 +11,7 @@ use Rattle.prompt_checker.specs.Schedule.{vertices_before, step_at, IsPrompt}
 use Rattle.prompt_checker.specs.Verdict.{StoodBefore, LacksParent, IsLeftOut, Overtakes, HasFlaw}
 use Rattle.prompt_checker.specs.declared.schedule.FlawKind.{FlawKind}
 use Rattle.prompt_checker.specs.declared.schedule.FlawKind.TheVariants.{EmptyStep, TooWide, Twice, NotReady, IdleCore, Inverted, Unfinished}
-use Rattle.prompt_checker.proofs.Steps.{concat_append, before_more}
+use Rattle.prompt_checker.proofs.Steps.{concat_append, before_more, before_each, before_distinct}
 
 -- nothing is wrong at step i
 pub record IsFine (g : CostGraph) (below : ℕ → ℕ → Type 0) (cores : ℕ) (steps : List (List ℕ)) (i : ℕ) : Type 0 where
@@ -58,26 +57,11 @@ module _ (g : CostGraph) (below : ℕ → ℕ → Type 0) (cores : ℕ) (steps :
   no_flaw i lt fine (Unfinished u) h = omega (arith, lt, h.0)
 
   module _ (small : (i v : ℕ) → i < length steps → Contains (step_at steps i) v → v < vertex_total g) (fine : (i : ℕ) → i < length steps → IsFine g below cores steps i) where
-    distinct_before : (i : ℕ) → i ≤ length steps → IsDistinct nat_eq (vertices_before steps i)
-    unfolding IsDistinct
-    distinct_before zero le = tt
-    distinct_before (suc i) le =
-        let lt : i < length steps = omega arith in
-        let le' : i ≤ length steps = omega arith in
+    distinct_more : (i : ℕ) → i < length steps → IsDistinct nat_eq (vertices_before steps i) → IsDistinct nat_eq (vertices_before steps i ++ step_at steps i)
+    distinct_more i lt d =
         let line : List ℕ = step_at steps i in
         let whole : length line ≤ length line = omega arith in
-        let grown = distinct_grown (vertices_before steps i) line (distinct_before i le') (fine i lt).once (length line) whole in
-        subst (IsDistinct nat_eq) (ap (λ l. vertices_before steps i ++ l) (take-length line) ∙ sym (before_more steps i lt)) grown
-
-    in_before : (i v : ℕ) → i ≤ length steps → Contains (vertices_before steps i) v → v < vertex_total g
-    in_before zero v le c = absurd (no_member v c)
-    in_before (suc i) v le c =
-        let lt : i < length steps = omega arith in
-        let le' : i ≤ length steps = omega arith in
-        elim (Contains-append_cases (vertices_before steps i) (step_at steps i) v (subst (λ l. Contains l v) (before_more steps i lt) c)) [
-          | inl early ↦ in_before i v le' early
-          | inr late ↦ small i v lt late
-        ]
+        subst (IsDistinct nat_eq) (ap (λ l. vertices_before steps i ++ l) (take-length line)) (distinct_grown (vertices_before steps i) line d (fine i lt).once (length line) whole)
 
     parents_first : (i v : ℕ) → i < length steps → Contains (step_at steps i) v → (u : ℕ) → Contains (parents_at g v) u → Contains (vertices_before steps i) u
     parents_first i v lt c =
@@ -95,8 +79,8 @@ module _ (g : CostGraph) (below : ℕ → ℕ → Type 0) (cores : ℕ) (steps :
     pub fine_is_prompt : ((v : ℕ) → v < vertex_total g → Contains (concat steps) v) → IsPrompt g below cores steps
     fine_is_prompt all = record {
       valid = record {
-        once = subst (IsDistinct nat_eq) whole (distinct_before (length steps) le_all);
-        all = λ v. (all v, λ c. in_before (length steps) v le_all (subst (λ l. Contains l v) (sym whole) c));
+        once = subst (IsDistinct nat_eq) whole (before_distinct steps distinct_more (length steps) le_all);
+        all = λ v. (all v, λ c. before_each (λ w. w < vertex_total g) steps small (length steps) v le_all (subst (λ l. Contains l v) (sym whole) c));
         after = λ i v lt c. parents_first i v lt c;
         filled = λ i lt. (fine i lt).some;
         fits = λ i lt. (fine i lt).fits;

@@ -9,8 +9,8 @@ use Rattle.priority_order.specs.Order.{IsBelow}
 use Rattle.cost_graph.specs.Marks.{IsReady}
 use Rattle.cost_graph.proofs.Members.{parents_seen}
 use Rattle.prompt_checker.specs.Schedule.{vertices_before, step_at}
-use Rattle.prompt_checker.specs.Verdict.{rank, IsLeftOut, Overtakes, HasFlaw, IsFlaw}
-use Rattle.prompt_checker.specs.Watch.{IsFound, StandsAgain, IsEarly, holds, IsHeld, IsIdle, IsBroken, IsUnfair}
+use Rattle.prompt_checker.specs.Verdict.{IsLeftOut, Overtakes, HasFlaw, IsFlaw, rank}
+use Rattle.prompt_checker.specs.Inside.Watch.{IsFound, StandsAgain, IsEarly, holds, IsHeld, IsIdle, IsBroken, IsUnfair}
 use Rattle.prompt_checker.specs.declared.schedule.FlawKind.{FlawKind}
 use Rattle.prompt_checker.specs.declared.schedule.FlawKind.TheVariants.{EmptyStep, TooWide, Twice, NotReady, IdleCore, Inverted, Unfinished}
 use Rattle.prompt_checker.proofs.Fine.{IsFine, place, no_flaw}

@@ -17,7 +17,7 @@ use Rattle.std.proofs.lemmas.List.Elements.{Contains-append_left, Contains-appen
 use Rattle.cost_graph.specs.Graph.{CostGraph, vertex_priority}
 use Rattle.cost_graph.proofs.Members.{no_member, member_cons, member_head}
 use Rattle.prompt_checker.specs.Verdict.{IsLeast}
-use Rattle.prompt_checker.specs.Watch.{holds, IsHeld, IsOvertaken}
+use Rattle.prompt_checker.specs.Inside.Watch.{holds, IsHeld, IsOvertaken}
 use Rattle.prompt_checker.proofs.Least.{holds_at}
 
 at_same : (x v : ℕ) → is_at (nat_cmp x) v ≡ true → x ≡ v

@@ -12,7 +12,7 @@ use Rattle.cost_graph.proofs.Members.{member_or_not}
 use Rattle.cost_graph.proofs.Frontiers.{HasReady, ready_first, ready_next}
 use Rattle.prompt_checker.specs.Schedule.{vertices_before, step_at, IsPrompt}
 use Rattle.prompt_checker.specs.Verdict.{IsVerdict}
-use Rattle.prompt_checker.specs.Watch.{AreStood, IsLeastOf, holds, IsBroken, IsUnfair}
+use Rattle.prompt_checker.specs.Inside.Watch.{AreStood, IsLeastOf, holds, IsBroken, IsUnfair}
 use Rattle.prompt_checker.specs.declared.schedule.FlawKind.{FlawKind}
 use Rattle.prompt_checker.specs.declared.schedule.FlawKind.TheVariants.{Unfinished}
 use Rattle.prompt_checker.specs.declared.schedule.Verdict.TheVariants.{Flaw}

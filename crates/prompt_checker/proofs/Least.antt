@@ -1,15 +1,12 @@
 -- The least vertex of the sets of some priorities, set by set.
-use Rattle.std.proofs.Common.{◌≡◌, ℕ, ◌+◌, ◌<◌, ◌≤◌, true, false, List, length, get_or, map, min, refl, sym, ap, ◌∙◌, subst, inl, inr, arith, ◌⊎◌}
+use Rattle.std.proofs.Common.{◌≡◌, ℕ, ◌+◌, ◌<◌, ◌≤◌, true, false, List, length, get_or, map, min, sym, ap, ◌∙◌, subst, inl, inr, arith, ◌⊎◌}
 use Rattle.std.specs.Prelude.{Option, None, Some}
-use Rattle.std.specs.declared.cmp.Ordering.{Ordering}
-use Rattle.std.specs.declared.cmp.Ordering.TheVariants.{Less, Equal, Greater}
-use Rattle.std.specs.Ordering.{nat_cmp, is_gt}
+use Rattle.std.specs.Ordering.{nat_cmp}
 use Rattle.std.specs.BTreeSet.{BTreeSet, contains}
 use Rattle.std.proofs.lemmas.Bool.{cases_lt, both_ways}
-use Rattle.std.proofs.lemmas.Cmp.{ranked}
 use Rattle.std.proofs.lemmas.List.{get_or-map, get_or_past, length-map}
 use Rattle.prompt_checker.specs.Verdict.{IsLeast}
-use Rattle.prompt_checker.specs.Watch.{IsLeastOf, lesser_of, holds, IsAbove, IsHeld}
+use Rattle.prompt_checker.specs.Inside.Watch.{IsLeastOf, lesser_of, holds, IsAbove, IsHeld}
 
 -- the lesser of the least ones of two kinds is the least of both
 pub least_join : (P Q R : ℕ → Type 0) → ((v : ℕ) → R v → P v ⊎ Q v) → ((v : ℕ) → P v → R v) → ((v : ℕ) → Q v → R v) → (a b : Option ℕ) → IsLeastOf P a → IsLeastOf Q b → IsLeastOf R (lesser_of a b)
@@ -41,24 +38,6 @@ holds_within sets p v h =
           let long : length (map f sets) ≤ p = omega (arith, past, length-map sets f) in
           absurd (both_ways (holds sets p v) (get_or_past (map f sets) p false long) h))
     ]
-
-pub le_of : (a b : ℕ) → is_gt (nat_cmp a b) ≡ false → a ≤ b
-le_of a b h = go (nat_cmp a b) refl h
-  where
-    go : (o : Ordering) → o ≡ nat_cmp a b → is_gt o ≡ false → a ≤ b
-    go Less s e = let lt : a < b = ranked a b Less s in omega arith
-    go Equal s e = let same : a ≡ b = ranked a b Equal s in omega arith
-    go Greater s e = absurd (cc e)
-
--- the first key of the set at p is the least that it has
-pub first_is_least : (pairs : List (ℕ × ℕ)) (sets : List (BTreeSet ℕ)) (low : Option ℕ) (p u : ℕ) (s : BTreeSet ℕ) → p < length sets → s ≡ get_or sets p s → IsAbove pairs low p → contains nat_cmp s u ≡ true
-    → ((q : ℕ) → contains nat_cmp s q ≡ true → is_gt (nat_cmp u q) ≡ false) → IsLeast (λ v. IsAbove pairs low p × (holds sets p v ≡ true)) u
-first_is_least pairs sets low p u s lt e above has least = (
-  (above, holds_at sets p u s lt e ∙ has),
-  λ w less h.
-      let le = le_of u w (least w (sym (holds_at sets p w s lt e) ∙ h.1)) in
-      omega (arith, le, less),
-)
 
 -- v stands in a set above, before n
 abbrev pub HeldBefore : List (ℕ × ℕ) → List (BTreeSet ℕ) → Option ℕ → ℕ → ℕ → Type 0

@@ -11,8 +11,8 @@ use Rattle.inputs_text.proofs.Pairs.{pairs-more}
 use Rattle.cost_graph.specs.Graph.{CostGraph, thread_at, thread_total, first_vertex, IsVertexAt}
 use Rattle.cost_graph.proofs.Members.{member_head, member_tail}
 use Rattle.prompt_checker.specs.ScheduleText.{Name, last_root, IsVertexText, IsBadWord, IsStepLine, IsBadLine, IsUnknownLine, AreStepLines, IsFirstFault}
-use Rattle.prompt_checker.specs.Looks.{IsLook}
-use Rattle.prompt_checker.specs.Watch.{IsLeastOf}
+use Rattle.prompt_checker.specs.Inside.Looks.{IsLook}
+use Rattle.prompt_checker.specs.Inside.Watch.{IsLeastOf}
 use Rattle.prompt_checker.specs.Laws.{LinesAreRead}
 use Rattle.prompt_checker.specs.declared.reader.ScheduleFault.{ScheduleFault}
 use Rattle.prompt_checker.specs.declared.reader.ScheduleFault.TheVariants.{BadText, UnknownVertex}

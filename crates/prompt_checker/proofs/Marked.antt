@@ -7,7 +7,7 @@ use Rattle.std.proofs.lemmas.Bool.{cases_lt, both_ways}
 use Rattle.std.proofs.lemmas.List.{length-set, take_more}
 use Rattle.std.proofs.Math.Seq.{take-length}
 use Rattle.cost_graph.specs.Marks.{is_marked, marks_after}
-use Rattle.prompt_checker.specs.Watch.{IsFound, WasMarked, AreStood, StandsAgain}
+use Rattle.prompt_checker.specs.Inside.Watch.{IsFound, WasMarked, AreStood, StandsAgain}
 use Rattle.cost_graph.proofs.Members.{in_take}
 use Rattle.cost_graph.proofs.ReadyNext.{after_marked, marked_after}
 use Rattle.prompt_checker.proofs.Found.{first_same}
@@ -25,9 +25,6 @@ pub record AreNew (marks : List Bool) (line : List ℕ) (now : List Bool) (i : �
   pub are : now ≡ marks_after marks (take i line)
   pub long : length now ≡ length marks
   pub new : (k : ℕ) → k < i → WasMarked marks line k (get_or line k 0) → ⊥
-
-pub new_start : (marks : List Bool) (line : List ℕ) → AreNew marks line marks 0
-new_start marks line = record { are = refl; long = refl; new = λ k lt. absurd (omega (arith, lt)) }
 
 pub new_more : (marks : List Bool) (line : List ℕ) (now next : List Bool) (i : ℕ) → i < length line → AreNew marks line now i → is_marked now (get_or line i 0) ≡ false → next ≡ set now (get_or line i 0) true → AreNew marks line next (i + 1)
 new_more marks line now next i lt before free e = record {

@@ -4,7 +4,7 @@ use Rattle.std.proofs.lemmas.Bool.{cases_lt}
 use Rattle.cost_graph.specs.Graph.{CostGraph, vertex_total}
 use Rattle.std.specs.List.{concat, Contains}
 use Rattle.prompt_checker.specs.Schedule.{step_at}
-use Rattle.prompt_checker.specs.Verdict.{rank, IsFirstOf, IsLeast, StoodBefore, LacksParent, IsLeftOut, Overtakes, HasFlaw, IsFlaw, IsVerdict}
+use Rattle.prompt_checker.specs.Verdict.{StoodBefore, LacksParent, IsLeftOut, Overtakes, HasFlaw, IsFlaw, IsVerdict, rank, IsFirstOf, IsLeast}
 use Rattle.prompt_checker.specs.declared.schedule.FlawKind.{FlawKind}
 use Rattle.prompt_checker.specs.declared.schedule.FlawKind.TheVariants.{EmptyStep, TooWide, Twice, NotReady, IdleCore, Inverted, Unfinished}
 use Rattle.prompt_checker.specs.declared.schedule.Flaw.{Flaw as TheFlaw}

@@ -19,7 +19,7 @@ use Rattle.cost_graph.proofs.Members.{no_member_short, member_head}
 use Rattle.cost_graph.proofs.Threads.{one_path}
 use Rattle.cost_graph.proofs.Ends.{thread_within}
 use Rattle.prompt_checker.specs.ScheduleText.{Name, last_root, IsVertexText, IsNamed, IsVertexWord, IsUnknownWord, IsBadWord, IsStepLine, IsUnknownLine, AreStepLines, IsLineFault, IsFirstFault, HasFault, ReadsOneWay}
-use Rattle.prompt_checker.specs.Looks.{IsLook, StopsAt}
+use Rattle.prompt_checker.specs.Inside.Looks.{IsLook, StopsAt}
 use Rattle.prompt_checker.specs.declared.reader.ScheduleFault.{ScheduleFault}
 use Rattle.prompt_checker.specs.declared.reader.ScheduleFault.TheVariants.{BadText, UnknownVertex, OutOfMemory}
 
@@ -154,9 +154,6 @@ pub record IsReading (g : CostGraph) (text rest : List ℕ) (steps : List (List 
   pub done : List (List ℕ)
   pub is : lines text ≡ done ++ lines rest
   pub right : AreStepLines g done steps
-
-pub reading-start : (g : CostGraph) (text : List ℕ) → IsReading g text text []
-reading-start g text = record { done = []; is = refl; right = tt }
 
 first-line : (rest bytes line after : List ℕ) → 0 < length rest → IsRow bytes line after → rest ≡ bytes ++ after → lines rest ≡ line ∷ lines after
 first-line rest bytes line after some row e = go row.ended

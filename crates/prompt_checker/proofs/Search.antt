@@ -3,7 +3,7 @@ use Rattle.std.proofs.Common.{◌≡◌, ℕ, zero, suc, ◌<◌, List, length, 
 use Rattle.std.specs.Prelude.{Option, None, Some}
 use Rattle.std.proofs.lemmas.Bool.{cases_lt}
 use Rattle.prompt_checker.specs.Verdict.{IsLeast}
-use Rattle.prompt_checker.specs.Watch.{IsFound, IsLeastOf}
+use Rattle.prompt_checker.specs.Inside.Watch.{IsFound, IsLeastOf}
 
 module _ (P : ℕ → Type 0) (each : (u : ℕ) → P u ⊎ (P u → ⊥)) where
   abbrev Upto : ℕ → Type 0

@@ -8,8 +8,8 @@ use Rattle.priority_order.proofs.Decided.{below_or_not}
 use Rattle.cost_graph.specs.Graph.{CostGraph, vertex_total, vertex_priority, parents_at, IsVertexBelow}
 use Rattle.cost_graph.proofs.Members.{member_or_not, parents_seen}
 use Rattle.prompt_checker.specs.Schedule.{vertices_before, step_at}
-use Rattle.prompt_checker.specs.Verdict.{IsFirstOf, IsLeast, IsLeftOut, Overtakes, IsFlaw, IsVerdict}
-use Rattle.prompt_checker.specs.Watch.{IsFound, IsLeastOf, StandsAgain, IsEarly, IsBroken}
+use Rattle.prompt_checker.specs.Verdict.{IsLeftOut, Overtakes, IsFlaw, IsVerdict, IsFirstOf, IsLeast}
+use Rattle.prompt_checker.specs.Inside.Watch.{IsFound, IsLeastOf, StandsAgain, IsEarly, IsBroken}
 use Rattle.prompt_checker.specs.Laws.{SchedulesAreJudged}
 use Rattle.prompt_checker.specs.declared.schedule.FlawKind.{FlawKind}
 use Rattle.prompt_checker.specs.declared.schedule.FlawKind.TheVariants.{EmptyStep, TooWide, Twice, NotReady, IdleCore, Inverted, Unfinished}

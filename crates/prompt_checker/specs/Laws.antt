@@ -13,4 +13,6 @@ LinesAreRead = (g : CostGraph) (ls : List (List ℕ)) → ((steps : List (List �
 
 -- every schedule of vertices of a graph has a verdict
 abbrev pub SchedulesAreJudged : Type 0
-SchedulesAreJudged = (g : CostGraph) (pairs : List (ℕ × ℕ)) (cores : ℕ) (steps : List (List ℕ)) → All (λ step. All (λ v. v < vertex_total g) step) steps → (v : Verdict) × IsVerdict g (IsVertexBelow g pairs) cores steps v
+SchedulesAreJudged =
+    (g : CostGraph) (pairs : List (ℕ × ℕ)) (cores : ℕ) (steps : List (List ℕ)) → All (λ step. All (λ v. v < vertex_total g) step) steps →
+    (v : Verdict) × IsVerdict g (IsVertexBelow g pairs) cores steps v

@@ -23,4 +23,5 @@ pub record IsValid (g : CostGraph) (cores : ℕ) (steps : List (List ℕ)) : Typ
 pub record IsPrompt (g : CostGraph) (below : ℕ → ℕ → Type 0) (cores : ℕ) (steps : List (List ℕ)) : Type 0 where
   pub valid : IsValid g cores steps
   pub busy : (i u : ℕ) → i < length steps → IsReady g (vertices_before steps i) u → (Contains (step_at steps i) u → ⊥) → cores ≤ length (step_at steps i)
-  pub fair : (i v u : ℕ) → i < length steps → Contains (step_at steps i) v → IsReady g (vertices_before steps i) u → (Contains (step_at steps i) u → ⊥) → below v u → ⊥
+  pub fair : (i v u : ℕ) → i < length steps → Contains (step_at steps i) v →
+      IsReady g (vertices_before steps i) u → (Contains (step_at steps i) u → ⊥) → below v u → ⊥

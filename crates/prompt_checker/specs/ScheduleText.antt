@@ -49,7 +49,9 @@ IsBadLine g line = (word : List ℕ) × Contains (words_of line) word × IsBadWo
 
 -- each word of the line has the form of a vertex, and one is the name of none of the graph
 abbrev pub IsUnknownLine : CostGraph → List ℕ → Type 0
-IsUnknownLine g line = ((word : List ℕ) → Contains (words_of line) word → IsBadWord g word → ⊥) × ((word : List ℕ) × Contains (words_of line) word × IsUnknownWord g word)
+IsUnknownLine g line =
+    ((word : List ℕ) → Contains (words_of line) word → IsBadWord g word → ⊥)
+    × ((word : List ℕ) × Contains (words_of line) word × IsUnknownWord g word)
 
 -- the lines are the steps, one after the other
 abbrev pub AreStepLines : CostGraph → List (List ℕ) → List (List ℕ) → Type 0

@@ -2,7 +2,7 @@
 ghost use Rattle.std.specs.Prelude.{◌≡◌, ℕ, ◌<◌, ◌++◌, List, length, None};
 ghost use Rattle.std.specs.List.{All, Contains};
 ghost use Rattle.cost_graph.specs.Graph.{vertex_total};
-ghost use Rattle.prompt_checker.specs.Watch.{IsFound, AreStood, StandsAgain, IsEarly, IsBroken, IsLeastOf};
+ghost use Rattle.prompt_checker.specs.Inside.Watch.{IsFound, AreStood, StandsAgain, IsEarly, IsBroken, IsLeastOf};
 
 use crate::schedule::FlawKind;
 use cost_graph::Frontier;

@@ -4,9 +4,10 @@ ghost use Rattle.cost_graph.specs.Graph.{vertex_total, thread_total, IsVertexAt}
 ghost use Rattle.priml_io.specs.Lines.{lines};
 ghost use Rattle.inputs_text.specs.PathText.{Pairwise};
 ghost use Rattle.inputs_text.specs.InputLines.{words_of};
+ghost use Rattle.prompt_checker.specs.declared.reader.ScheduleFault.TheVariants.{OutOfMemory};
 ghost use Rattle.prompt_checker.specs.Read.{lists, steps_of};
 ghost use Rattle.prompt_checker.specs.ScheduleText.{last_root as the_last_root, IsStepLine, IsBadLine, IsBadWord, IsVertexText, AreStepLines, HasFault, ReadsOneWay};
-ghost use Rattle.prompt_checker.specs.Looks.{IsLook, StopsAt};
+ghost use Rattle.prompt_checker.specs.Inside.Looks.{IsLook, StopsAt};
 
 use crate::schedule::Schedule;
 use cost_graph::Graph;
@@ -27,11 +28,7 @@ pub enum ScheduleFault {
 }
 
 impl From<AllocError> for ScheduleFault {
-    ghost use Rattle.std.specs.Prelude.{◌≡◌};
-    ghost use Rattle.prompt_checker.specs.declared.reader.ScheduleFault.{ScheduleFault};
-    ghost use Rattle.prompt_checker.specs.declared.reader.ScheduleFault.TheVariants.{OutOfMemory};
-
-    ghost from_gives = { λ e r. r ≡ OutOfMemory };
+    ghost from_gives = { λ _ fault. fault ≡ OutOfMemory };
 
     fn from(_: AllocError) -> ScheduleFault {
         ScheduleFault::OutOfMemory

@@ -4,7 +4,7 @@ ghost use Rattle.std.specs.List.{All, Contains};
 ghost use Rattle.priority_order.specs.Order.{IsBelow};
 ghost use Rattle.cost_graph.specs.declared.graph.Thread.{Thread as TheThread};
 ghost use Rattle.cost_graph.specs.Graph.{vertex_total, vertex_priority};
-ghost use Rattle.prompt_checker.specs.Watch.{IsLeastOf, lesser_of, holds, IsAbove, IsHeld, IsIdle, IsOvertaken, IsUnfair};
+ghost use Rattle.prompt_checker.specs.Inside.Watch.{IsLeastOf, lesser_of, holds, IsAbove, IsHeld, IsIdle, IsOvertaken, IsUnfair};
 
 use crate::schedule::FlawKind;
 use cost_graph::Graph;

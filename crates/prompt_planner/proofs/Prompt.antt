@@ -1,5 +1,5 @@
 -- The canonical plan is prompt.
-use Rattle.std.proofs.Common.{◌≡◌, ℕ, zero, suc, ◌<◌, ◌≤◌, List, [], ◌∷◌, length, take, drop, get_or, min, refl, sym, ap, ◌∙◌, subst, inl, inr, arith, Ordering}
+use Rattle.std.proofs.Common.{◌≡◌, ℕ, zero, suc, ◌<◌, ◌≤◌, List, [], ◌∷◌, ◌++◌, length, take, drop, get_or, min, refl, sym, ap, ◌∙◌, subst, inl, inr, arith, Ordering}
 use Rattle.std.specs.Prelude.{nat_eq}
 use Rattle.std.specs.declared.cmp.Ordering.TheVariants.{Less, Equal, Greater}
 use Rattle.std.specs.List.{concat, Contains, IsDistinct}
@@ -15,7 +15,7 @@ use Rattle.cost_graph.specs.Marks.{IsReady}
 use Rattle.prompt_checker.specs.Plan.{IsPlan, pair_cmp}
 use Rattle.prompt_checker.specs.Schedule.{vertices_before}
 use Rattle.cost_graph.proofs.Members.{distinct_join, parents_seen, member_or_not, no_member, member_cons, in_drop, in_take}
-use Rattle.prompt_checker.proofs.Steps.{before_more}
+use Rattle.prompt_checker.proofs.Steps.{before_each, before_distinct}
 use Rattle.prompt_planner.proofs.Going.{from_map, into_map, distinct_step}
 use Rattle.prompt_checker.specs.Schedule.{step_at, IsPrompt}
 use Rattle.cost_graph.proofs.Cycles.{stuck_has_cycle}
@@ -57,25 +57,11 @@ module _ (g : CostGraph) (lanes : List ℕ) (cores : ℕ) (steps : List (List �
         | inr late ↦ late
       ]
 
-  distinct_before : (i : ℕ) → i ≤ length steps → IsDistinct nat_eq (vertices_before steps i)
-  unfolding IsDistinct
-  distinct_before zero le = tt
-  distinct_before (suc i) le =
-      let lt : i < length steps = omega arith in
-      let le' : i ≤ length steps = omega arith in
+  distinct_more : (i : ℕ) → i < length steps → IsDistinct nat_eq (vertices_before steps i) → IsDistinct nat_eq (vertices_before steps i ++ step_at steps i)
+  distinct_more i lt d =
       let p = plan.each i lt in
       let one = subst (IsDistinct nat_eq) (sym p.first) (distinct_step lanes p.keys p.ready.rising (λ k c. ((p.ready.are k).0 c).1) cores) in
-      subst (IsDistinct nat_eq) (sym (before_more steps i lt)) (distinct_join (vertices_before steps i) (step_at steps i) (distinct_before i le') one (λ v a b. (ready_at i v lt b).waits a))
-
-  in_before : (i v : ℕ) → i ≤ length steps → Contains (vertices_before steps i) v → v < vertex_total g
-  in_before zero v le c = absurd (no_member v c)
-  in_before (suc i) v le c =
-      let lt : i < length steps = omega arith in
-      let le' : i ≤ length steps = omega arith in
-      elim (Contains-append_cases (vertices_before steps i) (step_at steps i) v (subst (λ l. Contains l v) (before_more steps i lt) c)) [
-        | inl early ↦ in_before i v le' early
-        | inr late ↦ (ready_at i v lt late).vertex
-      ]
+      distinct_join (vertices_before steps i) (step_at steps i) d one (λ v a b. (ready_at i v lt b).waits a)
 
   whole : vertices_before steps (length steps) ≡ concat steps
   whole = ap concat (take-length steps)
@@ -101,10 +87,10 @@ module _ (g : CostGraph) (lanes : List ℕ) (cores : ℕ) (steps : List (List �
   pub plan_is_prompt : IsPrompt g below cores steps
   plan_is_prompt = record {
     valid = record {
-      once = subst (IsDistinct nat_eq) whole (distinct_before (length steps) le_all);
+      once = subst (IsDistinct nat_eq) whole (before_distinct steps distinct_more (length steps) le_all);
       all = λ v. (
         λ lt. elim (member_or_not (concat steps) v) [ inl c ↦ c | inr out ↦ absurd (stuck_has_cycle (Edge g) Missing (vertex_total g) (λ w m. m.0) missing_parent acyclic v (lt, out)) ],
-        λ c. in_before (length steps) v le_all (subst (λ l. Contains l v) (sym whole) c),
+        λ c. before_each (λ w. w < vertex_total g) steps (λ i u lt k. (ready_at i u lt k).vertex) (length steps) v le_all (subst (λ l. Contains l v) (sym whole) c),
       );
       after = λ i v lt c. (ready_at i v lt c).parents;
       filled = λ i lt. (plan.each i lt).some;

@@ -11,7 +11,7 @@ use Rattle.cost_graph.proofs.Members.{no_member, member_cons, member_head, disti
 use Rattle.prompt_checker.specs.Schedule.{vertices_before, step_at, IsValid}
 use Rattle.prompt_checker.proofs.Steps.{concat_append, before_more, before_kept}
 use Rattle.response_report.specs.Response.{ParentsBefore, IsReleased, IsResponse}
-use Rattle.response_report.specs.Places.{ArePlaces, IsRelease}
+use Rattle.response_report.specs.Inside.Places.{ArePlaces, IsRelease}
 
 -- what stands in the first steps stands in one of them
 pub stands_in : (steps : List (List ℕ)) (i v : ℕ) → i ≤ length steps → Contains (vertices_before steps i) v → (j : ℕ) × (j < i) × Contains (step_at steps j) v

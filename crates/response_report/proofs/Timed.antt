@@ -9,7 +9,7 @@ use Rattle.cost_graph.specs.Graph.{CostGraph, thread_total, parents_at, first_ve
 use Rattle.prompt_checker.specs.Schedule.{IsPrompt}
 use Rattle.span_bound.specs.Work.{IsWork, IsSpan}
 use Rattle.response_report.specs.declared.row.Row.{Row}
-use Rattle.response_report.specs.Places.{ArePlaces, IsRelease}
+use Rattle.response_report.specs.Inside.Places.{ArePlaces, IsRelease}
 use Rattle.response_report.specs.Response.{IsResponse, IsRow}
 use Rattle.response_report.proofs.Places.{response_is, last_place, last_stands}
 use Rattle.response_report.proofs.Tokens.{IsBounded, are_bounded, in_order, response_bound}

@@ -1,4 +1,4 @@
 pub mod Response
-pub mod Places
 pub mod Text
 pub mod Laws
+pub mod Inside

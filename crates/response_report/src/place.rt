@@ -2,7 +2,7 @@ ghost use Rattle.std.specs.Prelude.{◌≡◌, ℕ, ◌+◌, ◌<◌, length, ge
 ghost use Rattle.std.specs.List.{All, Contains, IsDistinct, concat};
 ghost use Rattle.cost_graph.specs.Graph.{vertex_total};
 ghost use Rattle.prompt_checker.specs.Read.{steps_of};
-ghost use Rattle.response_report.specs.Places.{ArePlaces, IsRelease};
+ghost use Rattle.response_report.specs.Inside.Places.{ArePlaces, IsRelease};
 
 use cost_graph::Graph;
 use prompt_checker::Schedule;

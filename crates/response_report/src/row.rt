@@ -1,3 +1,6 @@
+ghost use Rattle.std.specs.Prelude.{◌≡◌};
+ghost use Rattle.response_report.specs.declared.row.ReportStop.TheVariants.{OutOfMemory};
+
 use std::alloc::AllocError;
 
 /// The response of a thread under a schedule, and its bound.
@@ -24,9 +27,6 @@ pub enum ReportStop {
 }
 
 impl From<AllocError> for ReportStop {
-    ghost use Rattle.std.specs.Prelude.{◌≡◌};
-    ghost use Rattle.response_report.specs.declared.row.ReportStop.TheVariants.{OutOfMemory};
-
     ghost from_gives = { λ _ stop. stop ≡ OutOfMemory };
 
     fn from(_: AllocError) -> ReportStop {

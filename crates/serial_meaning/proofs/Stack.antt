@@ -30,7 +30,7 @@ use Rattle.core_steps.proofs.Threads.{same_or_not, found_first, found_behind, fo
 use Rattle.core_steps.proofs.Closed.{Closed, Choice, choice, given_ended, events_moved, events_others, in_stays}
 use Rattle.core_steps.proofs.Starts.{reached_closed, followed_append}
 use Rattle.serial_meaning.specs.declared.serial.Active.{Active}
-use Rattle.serial_meaning.specs.Serial.{Falls, Has, IsActive, IsStack, Serial, MayGo, GoesOnAt, MaySpawn, left_of, roots_below}
+use Rattle.serial_meaning.specs.Inside.Serial.{Falls, Has, IsActive, IsStack, Serial, MayGo, GoesOnAt, MaySpawn, left_of, roots_below}
 use Rattle.serial_meaning.proofs.Spawning.{spawn_has_room}
 
 -- lists of threads that have not ended

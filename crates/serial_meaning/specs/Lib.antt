@@ -1,2 +1,2 @@
 pub mod RunText
-pub mod Serial
+pub mod Inside

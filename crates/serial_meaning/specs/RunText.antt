@@ -34,7 +34,9 @@ outcome_text (faulted f) = codes "fault " ++ fault_text f
 
 -- the line of a thread: its path, its priority's name, the number of its steps, and how it ended
 abbrev pub thread_line : List (List ℕ) → Entry → List ℕ
-thread_line names r = codes "thread " ++ path_text r.path ++ codes " " ++ get_or names r.prio [] ++ codes " " ++ decimal (length r.events) ++ codes " " ++ outcome_text r.outcome ++ 10 ∷ []
+thread_line names r =
+    codes "thread " ++ path_text r.path ++ codes " " ++ get_or names r.prio []
+    ++ codes " " ++ decimal (length r.events) ++ codes " " ++ outcome_text r.outcome ++ 10 ∷ []
 
 -- whether the event wrote a number
 abbrev pub is_written : Event → Bool

@@ -8,5 +8,6 @@ mod tests;
 mod text;
 mod written;
 
+pub use outcome::push_value;
 pub use serial::{MeaningStop, meaning};
-pub use text::run_text;
+pub use text::{run_text, work_of};

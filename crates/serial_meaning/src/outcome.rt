@@ -36,9 +36,9 @@ fn push_fault(text: &mut String, fault: FaultKind) -> Result<(), AllocError>
     }
 }
 
-// Appends a value.
+/// Appends the text of a value. The only error is want of memory.
 #[cycle(push)]
-fn push_value(text: &mut String, value: &Value) -> Result<(), AllocError>
+pub fn push_value(text: &mut String, value: &Value) -> Result<(), AllocError>
     ensures { OnOk result (string_bytes text.new ≡ string_bytes text.old ++ value_text (read_value value.now)) }
 {
     match value {

@@ -4,13 +4,14 @@ ghost use Rattle.std.specs.Prelude.{◌≡◌, ◌<◌, ◌≤◌, ◌^◌, ◌+
 ghost use Rattle.std.specs.List.{All};
 ghost use Rattle.std.specs.Vec.{vec_len};
 ghost use Rattle.priml_syntax.specs.Read.{read_record};
+ghost use Rattle.serial_meaning.specs.declared.serial.MeaningStop.TheVariants.{OutOfMemory};
 ghost use Rattle.priml_syntax.specs.declared.record.Record.{Record as TheRecord};
 ghost use Rattle.cost_graph.specs.Records.{AreFinished, parts_in};
 ghost use Rattle.core_steps.specs.Configs.{Advances, IsConfig, slots_of};
 ghost use Rattle.core_steps.specs.Laws.{HasGraph};
 ghost use Rattle.core_steps.specs.Meaning.{meaning as the_meaning, Finished, Over};
 ghost use Rattle.core_steps.specs.Moves.{read_job};
-ghost use Rattle.serial_meaning.specs.Serial.{Serial, GoesOnAt, MaySpawn, left_of, roots_below};
+ghost use Rattle.serial_meaning.specs.Inside.Serial.{Serial, GoesOnAt, MaySpawn, left_of, roots_below};
 
 use core_steps::{Config, CoreStop, job_is_checked};
 use priml_syntax::{Event, Path, PathStop, Records};
@@ -27,9 +28,6 @@ pub enum MeaningStop {
 }
 
 impl From<AllocError> for MeaningStop {
-    ghost use Rattle.std.specs.Prelude.{◌≡◌};
-    ghost use Rattle.serial_meaning.specs.declared.serial.MeaningStop.TheVariants.{OutOfMemory};
-
     ghost from_gives = { λ _ stop. stop ≡ OutOfMemory };
 
     fn from(_: AllocError) -> MeaningStop {

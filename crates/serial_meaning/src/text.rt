@@ -77,8 +77,8 @@ fn push_counted(text: &mut String, name: &str, steps: usize) -> Result<(), Alloc
     text.push_str(" ")
 }
 
-// The number of all events. It is exact: fewer than 2^63 records have fewer than 2^64 events each.
-fn work_of(records: &[Record]) -> u128
+/// The number of all events. It is exact: fewer than 2^63 records have fewer than 2^64 events each.
+pub fn work_of(records: &[Record]) -> u128
     ensures { result ≡ work (map read_record records.now) }
 {
     let mut sum: u128 = 0;

@@ -10,7 +10,7 @@ use Rattle.source_grammar.specs.declared.choice.TailForm.{TailForm}
 use Rattle.source_grammar.specs.declared.choice.TailForm.TheVariants as tail
 use Rattle.source_grammar.specs.Next.{is_at, form_at, is_name, is_sign, action_form, tail_form}
 use Rattle.source_grammar.specs.Machine.{Symbol, parens, brackets, rule, halt, and_then, by_form, rule_action_form, rule_tail_form, rule_bind, rule_tail, rule_call_priorities, AName, AWord, ASign, AtEnd, Listed, Expr, Block, Binds, Bind, Tail, Give, Branch, Split, Action, Returned, Spawn, Sync, Call, Run, Input, Output, CallOpen, CallPriorities}
-use Rattle.source_grammar.proofs.Steps.{begins, begins_here, halt-end, same, same_here, tested, nothing_chosen}
+use Rattle.source_grammar.proofs.Steps.{begins, begins_here, halt-end, same, tested, chosen, nothing_chosen}
 
 -- Straight lines.
 pub halt-block : (xs : List Symbol) (ts : List Token) → halt (Block ∷ xs) ts ≡ halt (ASign s.OpenBrace ∷ Binds ∷ xs) ts
@@ -60,75 +60,39 @@ pub end-brackets : (xs : List Symbol) (ts : List Token) → halt (AtEnd brackets
 end-brackets xs ts = same _ _ xs ts (λ kind. refl)
 
 -- The next token chooses an action.
-abbrev action_symbol : ActionForm → Symbol
-action_symbol action.Returned = Returned
-action_symbol action.Spawn = Spawn
-action_symbol action.Sync = Sync
-action_symbol action.Call = Call
-action_symbol action.Run = Run
-action_symbol action.Input = Input
-action_symbol action.Output = Output
-
-action_line : (f : ActionForm) (kind : Kind) → rule_action_form kind f ≡ rule (action_symbol f) kind
-action_line action.Returned kind = refl
-action_line action.Spawn kind = refl
-action_line action.Sync kind = refl
-action_line action.Call kind = refl
-action_line action.Run kind = refl
-action_line action.Input kind = refl
-action_line action.Output kind = refl
-
-action_chosen : (xs : List Symbol) (ts : List Token) (f : ActionForm) → form_at action_form ts ≡ Some f → halt (Action ∷ xs) ts ≡ halt (action_symbol f ∷ xs) ts
-action_chosen xs [] f h = cc
-action_chosen xs (t ∷ ts) f h = same_here Action (action_symbol f) xs t ts (ap (λ o. by_form o (rule_action_form t.kind) None) h ∙ action_line f t.kind)
-
 pub action-returned : (xs : List Symbol) (ts : List Token) → form_at action_form ts ≡ Some action.Returned → halt (Action ∷ xs) ts ≡ halt (Returned ∷ xs) ts
-action-returned xs ts h = action_chosen xs ts action.Returned h
+action-returned xs ts h = chosen Action Returned action_form rule_action_form action.Returned xs ts (λ kind. refl) (λ kind. refl) h
 
 pub action-spawn : (xs : List Symbol) (ts : List Token) → form_at action_form ts ≡ Some action.Spawn → halt (Action ∷ xs) ts ≡ halt (Spawn ∷ xs) ts
-action-spawn xs ts h = action_chosen xs ts action.Spawn h
+action-spawn xs ts h = chosen Action Spawn action_form rule_action_form action.Spawn xs ts (λ kind. refl) (λ kind. refl) h
 
 pub action-sync : (xs : List Symbol) (ts : List Token) → form_at action_form ts ≡ Some action.Sync → halt (Action ∷ xs) ts ≡ halt (Sync ∷ xs) ts
-action-sync xs ts h = action_chosen xs ts action.Sync h
+action-sync xs ts h = chosen Action Sync action_form rule_action_form action.Sync xs ts (λ kind. refl) (λ kind. refl) h
 
 pub action-call : (xs : List Symbol) (ts : List Token) → form_at action_form ts ≡ Some action.Call → halt (Action ∷ xs) ts ≡ halt (Call ∷ xs) ts
-action-call xs ts h = action_chosen xs ts action.Call h
+action-call xs ts h = chosen Action Call action_form rule_action_form action.Call xs ts (λ kind. refl) (λ kind. refl) h
 
 pub action-run : (xs : List Symbol) (ts : List Token) → form_at action_form ts ≡ Some action.Run → halt (Action ∷ xs) ts ≡ halt (Run ∷ xs) ts
-action-run xs ts h = action_chosen xs ts action.Run h
+action-run xs ts h = chosen Action Run action_form rule_action_form action.Run xs ts (λ kind. refl) (λ kind. refl) h
 
 pub action-input : (xs : List Symbol) (ts : List Token) → form_at action_form ts ≡ Some action.Input → halt (Action ∷ xs) ts ≡ halt (Input ∷ xs) ts
-action-input xs ts h = action_chosen xs ts action.Input h
+action-input xs ts h = chosen Action Input action_form rule_action_form action.Input xs ts (λ kind. refl) (λ kind. refl) h
 
 pub action-output : (xs : List Symbol) (ts : List Token) → form_at action_form ts ≡ Some action.Output → halt (Action ∷ xs) ts ≡ halt (Output ∷ xs) ts
-action-output xs ts h = action_chosen xs ts action.Output h
+action-output xs ts h = chosen Action Output action_form rule_action_form action.Output xs ts (λ kind. refl) (λ kind. refl) h
 
 pub action-none : (xs : List Symbol) (ts : List Token) → form_at action_form ts ≡ None → halt (Action ∷ xs) ts ≡ Some ts
 action-none xs ts h = nothing_chosen Action action_form rule_action_form xs ts (λ kind. refl) h
 
 -- The next token chooses an ending.
-abbrev tail_symbol : TailForm → Symbol
-tail_symbol tail.Give = Give
-tail_symbol tail.Branch = Branch
-tail_symbol tail.Split = Split
-
-tail_line : (f : TailForm) (kind : Kind) → rule_tail_form kind f ≡ rule (tail_symbol f) kind
-tail_line tail.Give kind = refl
-tail_line tail.Branch kind = refl
-tail_line tail.Split kind = refl
-
-tail_chosen : (xs : List Symbol) (ts : List Token) (f : TailForm) → form_at tail_form ts ≡ Some f → halt (Tail ∷ xs) ts ≡ halt (tail_symbol f ∷ xs) ts
-tail_chosen xs [] f h = cc
-tail_chosen xs (t ∷ ts) f h = same_here Tail (tail_symbol f) xs t ts (ap (λ o. by_form o (rule_tail_form t.kind) None) h ∙ tail_line f t.kind)
-
 pub tail-give : (xs : List Symbol) (ts : List Token) → form_at tail_form ts ≡ Some tail.Give → halt (Tail ∷ xs) ts ≡ halt (Give ∷ xs) ts
-tail-give xs ts h = tail_chosen xs ts tail.Give h
+tail-give xs ts h = chosen Tail Give tail_form rule_tail_form tail.Give xs ts (λ kind. refl) (λ kind. refl) h
 
 pub tail-branch : (xs : List Symbol) (ts : List Token) → form_at tail_form ts ≡ Some tail.Branch → halt (Tail ∷ xs) ts ≡ halt (Branch ∷ xs) ts
-tail-branch xs ts h = tail_chosen xs ts tail.Branch h
+tail-branch xs ts h = chosen Tail Branch tail_form rule_tail_form tail.Branch xs ts (λ kind. refl) (λ kind. refl) h
 
 pub tail-split : (xs : List Symbol) (ts : List Token) → form_at tail_form ts ≡ Some tail.Split → halt (Tail ∷ xs) ts ≡ halt (Split ∷ xs) ts
-tail-split xs ts h = tail_chosen xs ts tail.Split h
+tail-split xs ts h = chosen Tail Split tail_form rule_tail_form tail.Split xs ts (λ kind. refl) (λ kind. refl) h
 
 pub tail-none : (xs : List Symbol) (ts : List Token) → form_at tail_form ts ≡ None → halt (Tail ∷ xs) ts ≡ Some ts
 tail-none xs ts h = nothing_chosen Tail tail_form rule_tail_form xs ts (λ kind. refl) h

@@ -1,9 +1,11 @@
 -- What the grammar takes, the machine takes.
-use Rattle.std.proofs.Common.{ℕ, List, [], ◌∷◌, ◌≡◌, Some, None, true, false, refl, sym, ◌∙◌}
+use Rattle.std.proofs.Common.{ℕ, List, [], ◌∷◌, ◌≡◌, Some, None, true, false, refl, sym, ap, ◌∙◌}
+use Rattle.std.proofs.lemmas.Bool.{false_from_ne_true, both_ways}
 use Rattle.source_tokens.specs.declared.token.Token.{Token}
 use Rattle.source_tokens.specs.declared.token.Kind.{Kind}
 use Rattle.source_tokens.specs.declared.token.Kind.TheVariants as k
 use Rattle.source_tokens.specs.declared.token.Word.TheVariants as w
+use Rattle.source_tokens.specs.declared.token.Sign.{Sign}
 use Rattle.source_tokens.specs.declared.token.Sign.TheVariants as s
 use Rattle.priml_syntax.specs.declared.expr.Op.{Op}
 use Rattle.source_grammar.specs.declared.raw.Name.{Name}
@@ -14,30 +16,22 @@ use Rattle.source_grammar.specs.Ends.{BeginsOtherwise, name_no_end, expr_no_end,
 use Rattle.source_grammar.specs.Machine.{Symbol, End, parens, brackets, variables, halt, AName, AWord, ASign, AtEnd, More, Separated, Listed, Ty, TyMid, Expr, Inside, Behind, Block, Binds, Action, CallOpen, Program, Procedure, Main, Routine, HeadOpen, Given}
 use Rattle.source_grammar.specs.Machine as m
 use Rattle.source_grammar.proofs.Steps.{halt-bracketed, inside-more}
+use Rattle.source_grammar.proofs.Taken.{sign_same}
 use Rattle.source_grammar.proofs.CommaLists.{halt-separated, listed-end, listed-more, more-end}
 
-kind_no_comma : (kind : Kind) → is_end kind ≡ true → is_sign s.Comma kind ≡ false
-kind_no_comma (k.Name n) h = refl
-kind_no_comma (k.Number n) h = refl
-kind_no_comma (k.Word x) h = refl
-kind_no_comma (k.Sign s.Comma) h = cc
-kind_no_comma (k.Sign _) h = refl
-
-kind_no_close : (kind : Kind) → is_end kind ≡ false → is_sign s.CloseParen kind ≡ false
-kind_no_close (k.Name n) h = refl
-kind_no_close (k.Number n) h = refl
-kind_no_close (k.Word x) h = refl
-kind_no_close (k.Sign s.CloseParen) h = cc
-kind_no_close (k.Sign _) h = refl
+-- A sign is not the next one where what ends a list tells them apart.
+apart : (x : Sign) (kind : Kind) → (is_end kind ≡ is_end (k.Sign x) → ⊥) → is_sign x kind ≡ false
+apart x (k.Sign y) other = false_from_ne_true _ (λ h. other (ap (λ z. is_end (k.Sign z)) (sym (sign_same x y h))))
+apart x _ other = refl
 
 -- What ends a list is no comma, and a bracket is what ends a list.
 pub end_no_comma : (ts : List Token) → is_at is_end ts ≡ true → is_at (is_sign s.Comma) ts ≡ false
 end_no_comma [] h = cc
-end_no_comma (t ∷ ts) h = kind_no_comma t.kind h
+end_no_comma (t ∷ ts) h = apart s.Comma t.kind (λ e. both_ways _ e h)
 
 pub no_end_no_close : (ts : List Token) → is_at is_end ts ≡ false → is_at (is_sign s.CloseParen) ts ≡ false
 no_end_no_close [] h = refl
-no_end_no_close (t ∷ ts) h = kind_no_close t.kind h
+no_end_no_close (t ∷ ts) h = apart s.CloseParen t.kind (λ e. both_ways _ h e)
 
 -- An item of a list takes what its symbol stands for, and does not begin with what may end a list.
 abbrev pub ItemMoves : {A : Type 0} → (List Token → List Token → A → Type 0) → Symbol → Type 0

@@ -74,6 +74,34 @@ module _ {A : Type 0} (Is : List Token → List Token → A → Type 0) (y : Sym
   pub listed_found : BeginsOtherwise y → (xs : List Symbol) (ts : List Token) → halt (Listed y e ∷ xs) ts ≡ None → FoundListed (IsListed Is ts) (AtEnd e ∷ xs) ts
   listed_found other xs ts h = listed_by other xs ts h (is_at is_end ts) refl
 
+-- An item of one token.
+one_found : {A : Type 0} (Is : List Token → List Token → A → Type 0) (y : Symbol)
+    → ((xs : List Symbol) (at : ℕ) (kind : Kind) (ts : List Token) → halt (y ∷ xs) (token at kind ∷ ts) ≡ None → Found (Is (token at kind ∷ ts)) xs (token at kind ∷ ts)) → ItemFound Is y
+one_found Is y here xs [] h = not_at_end y xs h
+one_found Is y here xs (t ∷ ts) h = here xs t.at t.kind ts h
+
+-- An item that is made of shorter ones.
+abbrev Below : {A : Type 0} → (List Token → List Token → A → Type 0) → Symbol → ℕ → Type 0
+Below Is y n = (xs : List Symbol) (ts : List Token) → length ts < n → halt (y ∷ xs) ts ≡ None → Found (Is ts) xs ts
+
+below : {A : Type 0} (Is : List Token → List Token → A → Type 0) (y : Symbol)
+    → ((n : ℕ) → Below Is y n → (xs : List Symbol) (ts : List Token) → length ts ≤ n → halt (y ∷ xs) ts ≡ None → Found (Is ts) xs ts) → (n : ℕ) → Below Is y n
+below Is y step zero xs ts l h = absurd (omega arith)
+below Is y step (suc n) xs ts l h = step n (below Is y step n) xs ts (omega arith) h
+
+by_length : {A : Type 0} (Is : List Token → List Token → A → Type 0) (y : Symbol)
+    → ((n : ℕ) → Below Is y n → (xs : List Symbol) (ts : List Token) → length ts ≤ n → halt (y ∷ xs) ts ≡ None → Found (Is ts) xs ts) → ItemFound Is y
+by_length Is y step xs ts h = below Is y step (length ts + 1) xs ts (omega arith) h
+
+-- An item whose form the next token chooses.
+pub by_choice : {A F : Type 0} (Is : List Token → List Token → A → Type 0) (y : Symbol) (form : Kind → Option F) (xs : List Symbol) (ts : List Token)
+    → (form_at form ts ≡ None → halt (y ∷ xs) ts ≡ Some ts) → ((f : F) → form_at form ts ≡ Some f → Found (Is ts) xs ts) → halt (y ∷ xs) ts ≡ None → Found (Is ts) xs ts
+by_choice Is y form xs ts none some h = by (form_at form ts) refl
+  where
+    by : (o : Option _) → form_at form ts ≡ o → Found (Is ts) xs ts
+    by None e = absurd (let f : Some ts ≡ None = sym (none e) ∙ h in cc)
+    by (Some f) e = some f e
+
 -- Types.
 simple_here : (xs : List Symbol) (at : ℕ) (kind : Kind) (ts : List Token) → halt (SimpleTy ∷ xs) (token at kind ∷ ts) ≡ None → Found (IsWritten (token at kind ∷ ts)) xs (token at kind ∷ ts)
 unfolding halt
@@ -82,14 +110,7 @@ simple_here xs at (k.Word w.Bool) ts h = record { tree = record { at = at; ty = 
 simple_here xs at (k.Word w.Int) ts h = record { tree = record { at = at; ty = int }; rest = ts; is = IsWritten.is_written (IsType.is_int at); shorter = omega arith; takes = h }
 simple_here xs at _ ts h = absurd (cc)
 
-simple_found : (xs : List Symbol) (ts : List Token) → halt (SimpleTy ∷ xs) ts ≡ None → Found (IsWritten ts) xs ts
-simple_found xs [] h = not_at_end SimpleTy xs h
-simple_found xs (t ∷ ts) h = simple_here xs t.at t.kind ts h
-
-abbrev TyBelow : ℕ → Type 0
-TyBelow n = (xs : List Symbol) (ts : List Token) → length ts < n → halt (Ty ∷ xs) ts ≡ None → Found (IsWritten ts) xs ts
-
-module _ (n : ℕ) (below : TyBelow n) where
+module _ (n : ℕ) (below : Below IsWritten Ty n) where
   thread_found : (xs : List Symbol) (ts : List Token) → length ts ≤ n → halt (ThreadTy ∷ xs) ts ≡ None → Found (IsWritten ts) xs ts
   thread_found xs ts l h =
       let p = word_taken w.Thread (ASign s.OpenBracket ∷ AName ∷ ASign s.CloseBracket ∷ ASign s.OpenParen ∷ Ty ∷ ASign s.CloseParen ∷ xs) ts (sym (halt-thread_ty xs ts) ∙ h) in
@@ -122,18 +143,13 @@ module _ (n : ℕ) (below : TyBelow n) where
         takes = d.takes;
       }
 
-  ty_step : (xs : List Symbol) (ts : List Token) → length ts ≤ n → halt (Ty ∷ xs) ts ≡ None → (o : Option TyForm) → form_at ty_form ts ≡ o → Found (IsWritten ts) xs ts
-  ty_step xs ts l h None e = absurd (let f : Some ts ≡ None = sym (ty-none xs ts e) ∙ h in cc)
-  ty_step xs ts l h (Some ty.Simple) e = simple_found xs ts (sym (ty-simple xs ts e) ∙ h)
-  ty_step xs ts l h (Some ty.Thread) e = thread_found xs ts l (sym (ty-thread xs ts e) ∙ h)
-  ty_step xs ts l h (Some ty.Paired) e = paired_found xs ts l (sym (ty-paired xs ts e) ∙ h)
+  ty_step : (xs : List Symbol) (ts : List Token) → length ts ≤ n → halt (Ty ∷ xs) ts ≡ None → (f : TyForm) → form_at ty_form ts ≡ Some f → Found (IsWritten ts) xs ts
+  ty_step xs ts l h ty.Simple e = one_found IsWritten SimpleTy simple_here xs ts (sym (ty-simple xs ts e) ∙ h)
+  ty_step xs ts l h ty.Thread e = thread_found xs ts l (sym (ty-thread xs ts e) ∙ h)
+  ty_step xs ts l h ty.Paired e = paired_found xs ts l (sym (ty-paired xs ts e) ∙ h)
 
-ty_below : (n : ℕ) → TyBelow n
-ty_below zero xs ts l h = absurd (omega arith)
-ty_below (suc n) xs ts l h = ty_step n (ty_below n) xs ts (omega arith) h (form_at ty_form ts) refl
-
-pub ty_found : (xs : List Symbol) (ts : List Token) → halt (Ty ∷ xs) ts ≡ None → Found (IsWritten ts) xs ts
-ty_found xs ts h = ty_below (length ts + 1) xs ts (omega arith) h
+pub ty_found : ItemFound IsWritten Ty
+ty_found = by_length IsWritten Ty (λ n below xs ts l h. by_choice IsWritten Ty ty_form xs ts (ty-none xs ts) (ty_step n below xs ts l h) h)
 
 -- Expressions.
 leaf_here : (xs : List Symbol) (at : ℕ) (kind : Kind) (ts : List Token) → halt (Leaf ∷ xs) (token at kind ∷ ts) ≡ None → Found (IsExpr (token at kind ∷ ts)) xs (token at kind ∷ ts)
@@ -144,14 +160,7 @@ leaf_here xs at (k.Word w.True) ts h = record { tree = bool_term at true; rest =
 leaf_here xs at (k.Word w.False) ts h = record { tree = bool_term at false; rest = ts; is = IsExpr.is_false at; shorter = omega arith; takes = h }
 leaf_here xs at _ ts h = absurd (cc)
 
-leaf_found : (xs : List Symbol) (ts : List Token) → halt (Leaf ∷ xs) ts ≡ None → Found (IsExpr ts) xs ts
-leaf_found xs [] h = not_at_end Leaf xs h
-leaf_found xs (t ∷ ts) h = leaf_here xs t.at t.kind ts h
-
-abbrev ExprBelow : ℕ → Type 0
-ExprBelow n = (xs : List Symbol) (ts : List Token) → length ts < n → halt (Expr ∷ xs) ts ≡ None → Found (IsExpr ts) xs ts
-
-module _ (n : ℕ) (below : ExprBelow n) where
+module _ (n : ℕ) (below : Below IsExpr Expr n) where
   behind_found : (at : ℕ) (xs : List Symbol) (ts us : List Token) (x : RawTerm) → IsExpr us ts x → length ts < n → halt (Behind ∷ xs) ts ≡ None
       → (b : Bool) → is_at (is_sign s.CloseParen) ts ≡ b → Found (IsExpr (sign at s.OpenParen ∷ us)) xs ts
   behind_found at xs ts us x i l h true e =
@@ -216,16 +225,11 @@ module _ (n : ℕ) (below : ExprBelow n) where
         takes = e.takes;
       }
 
-  expr_step : (xs : List Symbol) (ts : List Token) → length ts ≤ n → halt (Expr ∷ xs) ts ≡ None → (o : Option ExprForm) → form_at expr_form ts ≡ o → Found (IsExpr ts) xs ts
-  expr_step xs ts l h None e = absurd (let f : Some ts ≡ None = sym (expr-none xs ts e) ∙ h in cc)
-  expr_step xs ts l h (Some expr.Leaf) e = leaf_found xs ts (sym (expr-leaf xs ts e) ∙ h)
-  expr_step xs ts l h (Some expr.Opened) e = opened_found xs ts l (sym (expr-opened xs ts e) ∙ h)
-  expr_step xs ts l h (Some (expr.Applied p)) e = applied_found p xs ts l (expr-applied xs ts p e ∙ h)
-  expr_step xs ts l h (Some (expr.Injected d)) e = injected_found d xs ts l (expr-injected xs ts d e ∙ h)
+  expr_step : (xs : List Symbol) (ts : List Token) → length ts ≤ n → halt (Expr ∷ xs) ts ≡ None → (f : ExprForm) → form_at expr_form ts ≡ Some f → Found (IsExpr ts) xs ts
+  expr_step xs ts l h expr.Leaf e = one_found IsExpr Leaf leaf_here xs ts (sym (expr-leaf xs ts e) ∙ h)
+  expr_step xs ts l h expr.Opened e = opened_found xs ts l (sym (expr-opened xs ts e) ∙ h)
+  expr_step xs ts l h (expr.Applied p) e = applied_found p xs ts l (expr-applied xs ts p e ∙ h)
+  expr_step xs ts l h (expr.Injected d) e = injected_found d xs ts l (expr-injected xs ts d e ∙ h)
 
-expr_below : (n : ℕ) → ExprBelow n
-expr_below zero xs ts l h = absurd (omega arith)
-expr_below (suc n) xs ts l h = expr_step n (expr_below n) xs ts (omega arith) h (form_at expr_form ts) refl
-
-pub expr_found : (xs : List Symbol) (ts : List Token) → halt (Expr ∷ xs) ts ≡ None → Found (IsExpr ts) xs ts
-expr_found xs ts h = expr_below (length ts + 1) xs ts (omega arith) h
+pub expr_found : ItemFound IsExpr Expr
+expr_found = by_length IsExpr Expr (λ n below xs ts l h. by_choice IsExpr Expr expr_form xs ts (expr-none xs ts) (expr_step n below xs ts l h) h)

@@ -25,7 +25,7 @@ use Rattle.source_grammar.proofs.Steps.{halt-given, halt-parameter}
 use Rattle.source_grammar.proofs.BlockSteps.{halt-block, halt-bind, halt-give, halt-branch, halt-split, halt-returned, halt-spawn, halt-sync, halt-call, halt-run, halt-output, halt-call_priorities, halt-input, end-parens, end-brackets, action-returned, action-spawn, action-sync, action-call, action-run, action-input, action-output, action-none, tail-give, tail-branch, tail-split, tail-none, binds-name, binds-tail, call-open, call-priorities}
 use Rattle.source_grammar.proofs.HeadSteps.{halt-priority, halt-order, halt-procedure, halt-main, halt-routine, halt-head_variables, halt-head_close, halt-head_given, end-variables, head-open, head-variables, head-close, head-given, program-declaration, program-main}
 use Rattle.source_grammar.proofs.Taken.{BeginsWith, word_taken, sign_taken, name_taken, nothing_left}
-use Rattle.source_grammar.proofs.Sound.{Found, ItemFound, separated_found, listed_found, ty_found, expr_found}
+use Rattle.source_grammar.proofs.Sound.{Found, ItemFound, by_choice, separated_found, listed_found, ty_found, expr_found}
 
 -- The ends of lists.
 parens_taken : (xs : List Symbol) (ts : List Token) → halt (AtEnd parens ∷ xs) ts ≡ None → BeginsWith (k.Sign s.CloseParen) xs ts
@@ -179,15 +179,14 @@ module _ (n : ℕ) (below : Sound n) where
         takes = y.takes;
       }
 
-  tail_found : (xs : List Symbol) (ts : List Token) → length ts ≤ n → halt (Tail ∷ xs) ts ≡ None → (o : Option TailForm) → form_at tail_form ts ≡ o → Found (IsBody ts) xs ts
-  tail_found xs ts l h None e = absurd (let f : Some ts ≡ None = sym (tail-none xs ts e) ∙ h in cc)
-  tail_found xs ts l h (Some tail.Give) e = give_found xs ts (sym (tail-give xs ts e) ∙ h)
-  tail_found xs ts l h (Some tail.Branch) e = branch_found xs ts l (sym (tail-branch xs ts e) ∙ h)
-  tail_found xs ts l h (Some tail.Split) e = split_found xs ts l (sym (tail-split xs ts e) ∙ h)
+  tail_step : (xs : List Symbol) (ts : List Token) → length ts ≤ n → halt (Tail ∷ xs) ts ≡ None → (f : TailForm) → form_at tail_form ts ≡ Some f → Found (IsBody ts) xs ts
+  tail_step xs ts l h tail.Give e = give_found xs ts (sym (tail-give xs ts e) ∙ h)
+  tail_step xs ts l h tail.Branch e = branch_found xs ts l (sym (tail-branch xs ts e) ∙ h)
+  tail_step xs ts l h tail.Split e = split_found xs ts l (sym (tail-split xs ts e) ∙ h)
 
   end_found : (xs : List Symbol) (ts : List Token) → length ts ≤ n → halt (Tail ∷ ASign s.CloseBrace ∷ xs) ts ≡ None → Found (IsRest ts) xs ts
   end_found xs ts l h =
-      let e = tail_found (ASign s.CloseBrace ∷ xs) ts l h (form_at tail_form ts) refl in
+      let e = by_choice IsBody Tail tail_form (ASign s.CloseBrace ∷ xs) ts (tail-none (ASign s.CloseBrace ∷ xs) ts) (tail_step (ASign s.CloseBrace ∷ xs) ts l h) h in
       let q = sign_taken s.CloseBrace xs e.rest e.takes in
       record { tree = e.tree; rest = q.rest; is = (q.at, rw q.is at e.is); shorter = omega (arith, e.shorter, q.shorter); takes = q.takes }
 
@@ -231,15 +230,14 @@ module _ (n : ℕ) (below : Sound n) where
       let b = below.block_found xs p.rest (omega (arith, p.shorter)) p.takes in
       record { tree = (p.at, do_block b.tree); rest = b.rest; is = run_made ts p.rest b.rest p.at b.tree b.tree p.is b.is (refl {a = b.tree}); shorter = omega (arith, p.shorter, b.shorter); takes = b.takes }
 
-  action_step : (xs : List Symbol) (ts : List Token) → length ts ≤ n → halt (Action ∷ xs) ts ≡ None → (o : Option ActionForm) → form_at action_form ts ≡ o → Found (IsAct ts) xs ts
-  action_step xs ts l h None e = absurd (let f : Some ts ≡ None = sym (action-none xs ts e) ∙ h in cc)
-  action_step xs ts l h (Some action.Returned) e = returned_found xs ts (sym (action-returned xs ts e) ∙ h)
-  action_step xs ts l h (Some action.Spawn) e = spawn_found xs ts l (sym (action-spawn xs ts e) ∙ h)
-  action_step xs ts l h (Some action.Sync) e = sync_found xs ts (sym (action-sync xs ts e) ∙ h)
-  action_step xs ts l h (Some action.Call) e = call_it xs ts (sym (action-call xs ts e) ∙ h)
-  action_step xs ts l h (Some action.Run) e = run_found xs ts l (sym (action-run xs ts e) ∙ h)
-  action_step xs ts l h (Some action.Input) e = input_found xs ts (sym (action-input xs ts e) ∙ h)
-  action_step xs ts l h (Some action.Output) e = output_found xs ts (sym (action-output xs ts e) ∙ h)
+  action_step : (xs : List Symbol) (ts : List Token) → length ts ≤ n → halt (Action ∷ xs) ts ≡ None → (f : ActionForm) → form_at action_form ts ≡ Some f → Found (IsAct ts) xs ts
+  action_step xs ts l h action.Returned e = returned_found xs ts (sym (action-returned xs ts e) ∙ h)
+  action_step xs ts l h action.Spawn e = spawn_found xs ts l (sym (action-spawn xs ts e) ∙ h)
+  action_step xs ts l h action.Sync e = sync_found xs ts (sym (action-sync xs ts e) ∙ h)
+  action_step xs ts l h action.Call e = call_it xs ts (sym (action-call xs ts e) ∙ h)
+  action_step xs ts l h action.Run e = run_found xs ts l (sym (action-run xs ts e) ∙ h)
+  action_step xs ts l h action.Input e = input_found xs ts (sym (action-input xs ts e) ∙ h)
+  action_step xs ts l h action.Output e = output_found xs ts (sym (action-output xs ts e) ∙ h)
 
 sound : (n : ℕ) → Sound n
 sound zero = record {
@@ -250,7 +248,7 @@ sound zero = record {
 sound (suc n) = record {
   block_found = λ xs ts l h. block_step n (sound n) xs ts (omega arith) h;
   rest_found = λ xs ts l h. rest_step n (sound n) xs ts (omega arith) h (is_at is_name ts) refl;
-  action_found = λ xs ts l h. action_step n (sound n) xs ts (omega arith) h (form_at action_form ts) refl;
+  action_found = λ xs ts l h. by_choice IsAct Action action_form xs ts (action-none xs ts) (action_step n (sound n) xs ts (omega arith) h) h;
 }
 
 -- Routines and procedures.

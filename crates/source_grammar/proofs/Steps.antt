@@ -84,29 +84,21 @@ halt-given xs ts = begins _ _ (ASign s.AtMost ∷ AName ∷ []) xs ts (λ kind. 
 pub halt-parameter : (xs : List Symbol) (ts : List Token) → halt (Parameter ∷ xs) ts ≡ halt (AName ∷ ASign s.Colon ∷ Ty ∷ xs) ts
 halt-parameter xs ts = begins _ _ (ASign s.Colon ∷ Ty ∷ []) xs ts (λ kind. refl)
 
+-- The next token chooses a form.
+pub chosen : {F : Type 0} (x y : Symbol) (form : Kind → Option F) (here : Kind → F → Option (List Symbol)) (f : F) (xs : List Symbol) (ts : List Token)
+    → ((kind : Kind) → rule x kind ≡ by_form (form kind) (here kind) None) → ((kind : Kind) → here kind f ≡ rule y kind) → form_at form ts ≡ Some f → halt (x ∷ xs) ts ≡ halt (y ∷ xs) ts
+chosen x y form here f xs [] is line h = halt-end x y xs xs
+chosen x y form here f xs (t ∷ ts) is line h = same_here x y xs t ts (is t.kind ∙ ap (λ o. by_form o (here t.kind) None) h ∙ line t.kind)
+
 -- The next token chooses a type.
-abbrev ty_symbol : TyForm → Symbol
-ty_symbol ty.Simple = SimpleTy
-ty_symbol ty.Thread = ThreadTy
-ty_symbol ty.Paired = PairedTy
-
-ty_line : (f : TyForm) (kind : Kind) → rule_ty_form kind f ≡ rule (ty_symbol f) kind
-ty_line ty.Simple kind = refl
-ty_line ty.Thread kind = refl
-ty_line ty.Paired kind = refl
-
-ty_chosen : (xs : List Symbol) (ts : List Token) (f : TyForm) → form_at ty_form ts ≡ Some f → halt (Ty ∷ xs) ts ≡ halt (ty_symbol f ∷ xs) ts
-ty_chosen xs [] f h = cc
-ty_chosen xs (t ∷ ts) f h = same_here Ty (ty_symbol f) xs t ts (ap (λ o. by_form o (rule_ty_form t.kind) None) h ∙ ty_line f t.kind)
-
 pub ty-simple : (xs : List Symbol) (ts : List Token) → form_at ty_form ts ≡ Some ty.Simple → halt (Ty ∷ xs) ts ≡ halt (SimpleTy ∷ xs) ts
-ty-simple xs ts h = ty_chosen xs ts ty.Simple h
+ty-simple xs ts h = chosen Ty SimpleTy ty_form rule_ty_form ty.Simple xs ts (λ kind. refl) (λ kind. refl) h
 
 pub ty-thread : (xs : List Symbol) (ts : List Token) → form_at ty_form ts ≡ Some ty.Thread → halt (Ty ∷ xs) ts ≡ halt (ThreadTy ∷ xs) ts
-ty-thread xs ts h = ty_chosen xs ts ty.Thread h
+ty-thread xs ts h = chosen Ty ThreadTy ty_form rule_ty_form ty.Thread xs ts (λ kind. refl) (λ kind. refl) h
 
 pub ty-paired : (xs : List Symbol) (ts : List Token) → form_at ty_form ts ≡ Some ty.Paired → halt (Ty ∷ xs) ts ≡ halt (PairedTy ∷ xs) ts
-ty-paired xs ts h = ty_chosen xs ts ty.Paired h
+ty-paired xs ts h = chosen Ty PairedTy ty_form rule_ty_form ty.Paired xs ts (λ kind. refl) (λ kind. refl) h
 
 -- Where no form comes, the machine stops.
 pub nothing_chosen : {F : Type 0} (x : Symbol) (form : Kind → Option F) (here : Kind → F → Option (List Symbol)) (xs : List Symbol) (ts : List Token)
@@ -119,33 +111,17 @@ pub ty-none : (xs : List Symbol) (ts : List Token) → form_at ty_form ts ≡ No
 ty-none xs ts h = nothing_chosen Ty ty_form rule_ty_form xs ts (λ kind. refl) h
 
 -- The next token chooses an expression.
-abbrev expr_symbol : ExprForm → Symbol
-expr_symbol expr.Leaf = Leaf
-expr_symbol expr.Opened = Opened
-expr_symbol (expr.Applied p) = Applied p
-expr_symbol (expr.Injected d) = Injected d
-
-expr_line : (f : ExprForm) (kind : Kind) → rule_expr_form kind f ≡ rule (expr_symbol f) kind
-expr_line expr.Leaf kind = refl
-expr_line expr.Opened kind = refl
-expr_line (expr.Applied p) kind = refl
-expr_line (expr.Injected d) kind = refl
-
-expr_chosen : (xs : List Symbol) (ts : List Token) (f : ExprForm) → form_at expr_form ts ≡ Some f → halt (Expr ∷ xs) ts ≡ halt (expr_symbol f ∷ xs) ts
-expr_chosen xs [] f h = cc
-expr_chosen xs (t ∷ ts) f h = same_here Expr (expr_symbol f) xs t ts (ap (λ o. by_form o (rule_expr_form t.kind) None) h ∙ expr_line f t.kind)
-
 pub expr-leaf : (xs : List Symbol) (ts : List Token) → form_at expr_form ts ≡ Some expr.Leaf → halt (Expr ∷ xs) ts ≡ halt (Leaf ∷ xs) ts
-expr-leaf xs ts h = expr_chosen xs ts expr.Leaf h
+expr-leaf xs ts h = chosen Expr Leaf expr_form rule_expr_form expr.Leaf xs ts (λ kind. refl) (λ kind. refl) h
 
 pub expr-opened : (xs : List Symbol) (ts : List Token) → form_at expr_form ts ≡ Some expr.Opened → halt (Expr ∷ xs) ts ≡ halt (Opened ∷ xs) ts
-expr-opened xs ts h = expr_chosen xs ts expr.Opened h
+expr-opened xs ts h = chosen Expr Opened expr_form rule_expr_form expr.Opened xs ts (λ kind. refl) (λ kind. refl) h
 
 pub expr-applied : (xs : List Symbol) (ts : List Token) (p : Prefix) → form_at expr_form ts ≡ Some (expr.Applied p) → halt (Applied p ∷ xs) ts ≡ halt (Expr ∷ xs) ts
-expr-applied xs ts p h = sym (expr_chosen xs ts (expr.Applied p) h)
+expr-applied xs ts p h = sym (chosen Expr (Applied p) expr_form rule_expr_form (expr.Applied p) xs ts (λ kind. refl) (λ kind. refl) h)
 
 pub expr-injected : (xs : List Symbol) (ts : List Token) (d : Side) → form_at expr_form ts ≡ Some (expr.Injected d) → halt (Injected d ∷ xs) ts ≡ halt (Expr ∷ xs) ts
-expr-injected xs ts d h = sym (expr_chosen xs ts (expr.Injected d) h)
+expr-injected xs ts d h = sym (chosen Expr (Injected d) expr_form rule_expr_form (expr.Injected d) xs ts (λ kind. refl) (λ kind. refl) h)
 
 pub expr-none : (xs : List Symbol) (ts : List Token) → form_at expr_form ts ≡ None → halt (Expr ∷ xs) ts ≡ Some ts
 expr-none xs ts h = nothing_chosen Expr expr_form rule_expr_form xs ts (λ kind. refl) h

@@ -1,6 +1,6 @@
 -- What the first symbol takes, where the symbols stand for the tokens.
-use Rattle.std.proofs.Common.{ℕ, ◌<◌, List, [], ◌∷◌, ◌++◌, ◌≡◌, Some, None, Option, Bool, true, false, cond, ◌==◌, length, get_or, sym, refl, ap, ◌∙◌, arith}
-use Rattle.std.proofs.lemmas.Bool.Decides.{nat_tests}
+use Rattle.std.proofs.Common.{ℕ, ◌<◌, List, [], ◌∷◌, ◌++◌, ◌≡◌, Some, None, Option, Bool, true, false, cond, ◌==◌, length, slice_get, sym, refl, ap, ◌∙◌, arith}
+use Rattle.std.proofs.lemmas.Bool.{eqb-true}
 use Rattle.source_tokens.specs.declared.token.Token.{Token}
 use Rattle.source_tokens.specs.declared.token.Kind.{Kind}
 use Rattle.source_tokens.specs.declared.token.Kind.TheVariants as k
@@ -12,72 +12,23 @@ use Rattle.source_grammar.specs.declared.raw.Name.{Name}
 use Rattle.source_grammar.specs.Grammar.{token, name}
 use Rattle.source_grammar.specs.Joined.{IsToken}
 use Rattle.source_grammar.specs.Next.{word_number, sign_number}
+use Rattle.source_tokens.proofs.Tables.{words, signs, same_item}
 use Rattle.source_grammar.specs.Machine.{Symbol, rule, halt, go_on, by_form, AName, AWord, ASign}
 
 -- A word and a sign are known by their numbers.
-abbrev words : List Word
-words = w.Priority ∷ w.Order ∷ w.Proc ∷ w.Main ∷ w.At ∷ w.Ret ∷ w.Spawn ∷ w.Sync ∷ w.Call ∷ w.Do ∷ w.Input ∷ w.Output ∷ w.If ∷ w.Else ∷ w.Case
-    ∷ w.Inl ∷ w.Inr ∷ w.Fst ∷ w.Snd ∷ w.Not ∷ w.And ∷ w.Or ∷ w.True ∷ w.False ∷ w.Unit ∷ w.Bool ∷ w.Int ∷ w.Thread ∷ []
-
-word_back : (x : Word) → get_or words (word_number x) w.Int ≡ x
+word_back : (x : Word) → slice_get words (word_number x) ≡ Some x
 word_back w.Priority = refl
-word_back w.Order = refl
-word_back w.Proc = refl
-word_back w.Main = refl
-word_back w.At = refl
-word_back w.Ret = refl
-word_back w.Spawn = refl
-word_back w.Sync = refl
-word_back w.Call = refl
-word_back w.Do = refl
-word_back w.Input = refl
-word_back w.Output = refl
-word_back w.If = refl
-word_back w.Else = refl
-word_back w.Case = refl
-word_back w.Inl = refl
-word_back w.Inr = refl
-word_back w.Fst = refl
-word_back w.Snd = refl
-word_back w.Not = refl
-word_back w.And = refl
-word_back w.Or = refl
-word_back w.True = refl
-word_back w.False = refl
-word_back w.Unit = refl
-word_back w.Bool = refl
-word_back w.Int = refl
-word_back w.Thread = refl
+word_back _ = refl
+
+sign_back : (x : Sign) → slice_get signs (sign_number x) ≡ Some x
+sign_back s.Arrow = refl
+sign_back _ = refl
 
 word_same : (x y : Word) → (word_number x == word_number y) ≡ true → x ≡ y
-word_same x y h = let e : word_number x ≡ word_number y = grind (arith, nat_tests) in sym (word_back x) ∙ ap (λ n. get_or words n w.Int) e ∙ word_back y
+word_same x y h = same_item words x y _ _ (word_back x) (word_back y) (eqb-true (word_number x) (word_number y) h)
 
-abbrev signs : List Sign
-signs = s.Arrow ∷ s.AtMost ∷ s.Equal ∷ s.Less ∷ s.Plus ∷ s.Minus ∷ s.Star ∷ s.Slash ∷ s.Percent ∷ s.OpenParen ∷ s.CloseParen ∷ s.OpenBrace
-    ∷ s.CloseBrace ∷ s.OpenBracket ∷ s.CloseBracket ∷ s.Comma ∷ s.Semicolon ∷ s.Colon ∷ []
-
-sign_back : (x : Sign) → get_or signs (sign_number x) s.Colon ≡ x
-sign_back s.Arrow = refl
-sign_back s.AtMost = refl
-sign_back s.Equal = refl
-sign_back s.Less = refl
-sign_back s.Plus = refl
-sign_back s.Minus = refl
-sign_back s.Star = refl
-sign_back s.Slash = refl
-sign_back s.Percent = refl
-sign_back s.OpenParen = refl
-sign_back s.CloseParen = refl
-sign_back s.OpenBrace = refl
-sign_back s.CloseBrace = refl
-sign_back s.OpenBracket = refl
-sign_back s.CloseBracket = refl
-sign_back s.Comma = refl
-sign_back s.Semicolon = refl
-sign_back s.Colon = refl
-
-sign_same : (x y : Sign) → (sign_number x == sign_number y) ≡ true → x ≡ y
-sign_same x y h = let e : sign_number x ≡ sign_number y = grind (arith, nat_tests) in sym (sign_back x) ∙ ap (λ n. get_or signs n s.Colon) e ∙ sign_back y
+pub sign_same : (x y : Sign) → (sign_number x == sign_number y) ≡ true → x ≡ y
+sign_same x y h = same_item signs x y _ _ (sign_back x) (sign_back y) (eqb-true (sign_number x) (sign_number y) h)
 
 -- The first symbol has a rule for the first token.
 record Took (x : Symbol) (xs : List Symbol) (t : Token) (ts : List Token) : Type 0 where

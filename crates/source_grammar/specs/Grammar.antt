@@ -28,7 +28,8 @@ name n = token n.at (k.Name n.id)
 -- one or more of a form, with commas between
 pub data IsSeparated {A : Type 0} (Is : List Token → List Token → A → Type 0) : List Token → List Token → List A → Type 0 where
   one : {ts rest : List Token} {x : A} → Is ts rest x → IsSeparated Is ts rest (x ∷ [])
-  more : (comma : ℕ) {ts us rest : List Token} {x : A} {xs : List A} → Is ts (sign comma s.Comma ∷ us) x → IsSeparated Is us rest xs → IsSeparated Is ts rest (x ∷ xs)
+  more : (comma : ℕ) {ts us rest : List Token} {x : A} {xs : List A}
+      → Is ts (sign comma s.Comma ∷ us) x → IsSeparated Is us rest xs → IsSeparated Is ts rest (x ∷ xs)
 
 -- none or more of a form, with commas between
 pub data IsListed {A : Type 0} (Is : List Token → List Token → A → Type 0) : List Token → List Token → List A → Type 0 where
@@ -77,7 +78,8 @@ pub data IsExpr : List Token → List Token → RawTerm → Type 0 where
   is_true : (at : ℕ) {rest : List Token} → IsExpr (word at w.True ∷ rest) rest (bool_term at true)
   is_false : (at : ℕ) {rest : List Token} → IsExpr (word at w.False ∷ rest) rest (bool_term at false)
   is_nothing : (at close : ℕ) {rest : List Token} → IsExpr (sign at s.OpenParen ∷ sign close s.CloseParen ∷ rest) rest (unit_term at)
-  is_inside : (at close : ℕ) {ts rest : List Token} {x : RawTerm} → IsExpr ts (sign close s.CloseParen ∷ rest) x → IsExpr (sign at s.OpenParen ∷ ts) rest x
+  is_inside : (at close : ℕ) {ts rest : List Token} {x : RawTerm}
+      → IsExpr ts (sign close s.CloseParen ∷ rest) x → IsExpr (sign at s.OpenParen ∷ ts) rest x
   is_both : (at comma close : ℕ) {ts us rest : List Token} {x y : RawTerm}
       → IsExpr ts (sign comma s.Comma ∷ us) x → IsExpr us (sign close s.CloseParen ∷ rest) y
       → IsExpr (sign at s.OpenParen ∷ ts) rest (pair_term at x y)
@@ -163,7 +165,8 @@ pub data IsRoutine : List Token → List Token → ℕ → RawRoutine → Type 0
 
 -- a procedure
 pub data IsProcedure : List Token → List Token → RawProcedure → Type 0 where
-  is_procedure : (at from close : ℕ) (n : Name) {ts us vs rest : List Token} {ns : List Name} {gs : List (Name × Name)} {ps : List Parameter} {r : RawRoutine}
+  is_procedure : (at from close : ℕ) (n : Name)
+      {ts us vs rest : List Token} {ns : List Name} {gs : List (Name × Name)} {ps : List Parameter} {r : RawRoutine}
       → IsHead ts (sign from s.OpenParen ∷ us) ns gs → IsListed IsParameter us (sign close s.CloseParen ∷ vs) ps → IsRoutine vs rest at r
       → IsProcedure (word at w.Proc ∷ name n ∷ ts) rest (record { name = n; vars = ns; given = gs; params = ps; routine = r })
 
@@ -186,4 +189,5 @@ pub data IsMain : List Token → List Token → RawRoutine → Type 0 where
 
 -- all tokens stand for the program
 pub data IsProgram : List Token → RawTree → Type 0 where
-  is_program : {ts us : List Token} {ds : List Declaration} {m : RawRoutine} → IsDecls ts us ds → IsMain us [] m → IsProgram ts (record { decls = ds; main = m })
+  is_program : {ts us : List Token} {ds : List Declaration} {m : RawRoutine}
+      → IsDecls ts us ds → IsMain us [] m → IsProgram ts (record { decls = ds; main = m })

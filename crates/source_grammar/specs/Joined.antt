@@ -42,4 +42,5 @@ IsBehindComma Is ts rest x = (comma : ℕ) × (us : List Token) × (ts ≡ sign 
 
 -- behind the priority variables of a procedure: the pairs that it is given, and the bracket of its parameters
 abbrev pub EndsHead : List Token → List Token → List (Name × Name) → Type 0
-EndsHead ts rest gs = (i : ℕ) × ((at : ℕ) (us : List Token) (ns : List Name) → IsListed IsName us ts ns → IsHead (sign at s.OpenBracket ∷ us) (sign i s.OpenParen ∷ rest) ns gs)
+EndsHead ts rest gs = (i : ℕ)
+    × ((at : ℕ) (us : List Token) (ns : List Name) → IsListed IsName us ts ns → IsHead (sign at s.OpenBracket ∷ us) (sign i s.OpenParen ∷ rest) ns gs)

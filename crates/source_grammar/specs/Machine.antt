@@ -94,21 +94,16 @@ rule_simple_ty (k.Word w.Int) = Some []
 rule_simple_ty _ = None
 
 abbrev pub rule_thread_ty : Kind → Option (List Symbol)
-rule_thread_ty kind = and_then (ASign s.OpenBracket ∷ AName ∷ ASign s.CloseBracket ∷ ASign s.OpenParen ∷ Ty ∷ ASign s.CloseParen ∷ []) (rule_word w.Thread kind)
+rule_thread_ty kind =
+    and_then (ASign s.OpenBracket ∷ AName ∷ ASign s.CloseBracket ∷ ASign s.OpenParen ∷ Ty ∷ ASign s.CloseParen ∷ []) (rule_word w.Thread kind)
 
 abbrev pub rule_paired_ty : Kind → Option (List Symbol)
 rule_paired_ty kind = and_then (Ty ∷ TyMid ∷ Ty ∷ ASign s.CloseParen ∷ []) (rule_sign s.OpenParen kind)
-
-abbrev pub rule_ty_mid : Kind → Option (List Symbol)
-rule_ty_mid kind = by_form (mid_form kind) (λ m. Some []) None
 
 abbrev pub rule_ty_form : Kind → TyForm → Option (List Symbol)
 rule_ty_form kind ty.Simple = rule_simple_ty kind
 rule_ty_form kind ty.Thread = rule_thread_ty kind
 rule_ty_form kind ty.Paired = rule_paired_ty kind
-
-abbrev pub rule_ty : Kind → Option (List Symbol)
-rule_ty kind = by_form (ty_form kind) (rule_ty_form kind) None
 
 -- Expressions.
 abbrev pub rule_leaf : Kind → Option (List Symbol)
@@ -125,7 +120,8 @@ abbrev pub rule_applied : Prefix → Kind → Option (List Symbol)
 rule_applied p kind = and_then (ASign s.OpenParen ∷ Expr ∷ ASign s.CloseParen ∷ []) (rule_word (prefix_word p) kind)
 
 abbrev pub rule_injected : Side → Kind → Option (List Symbol)
-rule_injected d kind = and_then (ASign s.OpenBracket ∷ Ty ∷ ASign s.CloseBracket ∷ ASign s.OpenParen ∷ Expr ∷ ASign s.CloseParen ∷ []) (rule_word (side_word d) kind)
+rule_injected d kind =
+    and_then (ASign s.OpenBracket ∷ Ty ∷ ASign s.CloseBracket ∷ ASign s.OpenParen ∷ Expr ∷ ASign s.CloseParen ∷ []) (rule_word (side_word d) kind)
 
 abbrev pub rule_expr_form : Kind → ExprForm → Option (List Symbol)
 rule_expr_form kind expr.Leaf = rule_leaf kind
@@ -205,9 +201,6 @@ rule_action_form kind action.Run = rule_run kind
 rule_action_form kind action.Input = rule_word w.Input kind
 rule_action_form kind action.Output = rule_output kind
 
-abbrev pub rule_action : Kind → Option (List Symbol)
-rule_action kind = by_form (action_form kind) (rule_action_form kind) None
-
 -- the priorities of a call, and the bracket of its arguments
 abbrev pub rule_call_priorities : Kind → Option (List Symbol)
 rule_call_priorities kind = and_then (Listed AName brackets ∷ ASign s.OpenParen ∷ []) (rule_sign s.OpenBracket kind)
@@ -267,11 +260,11 @@ rule (BehindComma x) kind = and_then (x ∷ []) (rule_sign s.Comma kind)
 rule (More x e) kind = rule_more x e kind
 rule (Separated x e) kind = and_then (More x e ∷ []) (rule x kind)
 rule (Listed x e) kind = or_else (rule_end e kind) (and_then (More x e ∷ []) (rule x kind))
-rule Ty kind = rule_ty kind
+rule Ty kind = by_form (ty_form kind) (rule_ty_form kind) None
 rule SimpleTy kind = rule_simple_ty kind
 rule ThreadTy kind = rule_thread_ty kind
 rule PairedTy kind = rule_paired_ty kind
-rule TyMid kind = rule_ty_mid kind
+rule TyMid kind = by_form (mid_form kind) (λ m. Some []) None
 rule Expr kind = rule_expr kind
 rule Leaf kind = rule_leaf kind
 rule Opened kind = rule_opened kind
@@ -289,7 +282,7 @@ rule Tail kind = rule_tail kind
 rule Give kind = rule_give kind
 rule Branch kind = rule_branch kind
 rule Split kind = rule_split kind
-rule Action kind = rule_action kind
+rule Action kind = by_form (action_form kind) (rule_action_form kind) None
 rule Returned kind = rule_give kind
 rule Spawn kind = rule_spawn kind
 rule Sync kind = rule_sync kind

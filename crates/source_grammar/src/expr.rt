@@ -250,20 +250,12 @@ impl Prefix {
         ensures { IfOk result (λ e. read_expr e ≡ prefix_term self at (read_expr value)) }
     {
         let value = boxed(alloc, value)?;
-        match self {
-            Prefix::First => Ok(RawExpr {
-                at,
-                form: RawForm::Fst(value),
-            }),
-            Prefix::Second => Ok(RawExpr {
-                at,
-                form: RawForm::Snd(value),
-            }),
-            Prefix::Negated => Ok(RawExpr {
-                at,
-                form: RawForm::Not(value),
-            }),
-        }
+        let form = match self {
+            Prefix::First => RawForm::Fst(value),
+            Prefix::Second => RawForm::Snd(value),
+            Prefix::Negated => RawForm::Not(value),
+        };
+        Ok(RawExpr { at, form })
     }
 }
 
@@ -287,16 +279,11 @@ impl Side {
         ensures { IfOk result (λ e. read_expr e ≡ side_term self at (read_written ty) (read_expr value)) }
     {
         let injection = boxed_injection(alloc, ty, value)?;
-        match self {
-            Side::Left => Ok(RawExpr {
-                at,
-                form: RawForm::Inl(injection),
-            }),
-            Side::Right => Ok(RawExpr {
-                at,
-                form: RawForm::Inr(injection),
-            }),
-        }
+        let form = match self {
+            Side::Left => RawForm::Inl(injection),
+            Side::Right => RawForm::Inr(injection),
+        };
+        Ok(RawExpr { at, form })
     }
 }
 
@@ -310,16 +297,11 @@ fn join(
     ensures { IfOk result (λ e. read_expr e ≡ joint_term joint at (read_expr first) (read_expr second)) }
 {
     let both = boxed_two(alloc, first, second)?;
-    match joint {
-        Joint::Comma => Ok(RawExpr {
-            at,
-            form: RawForm::Pair(both),
-        }),
-        Joint::Operator(op) => Ok(RawExpr {
-            at,
-            form: RawForm::Op(op, both),
-        }),
-    }
+    let form = match joint {
+        Joint::Comma => RawForm::Pair(both),
+        Joint::Operator(op) => RawForm::Op(op, both),
+    };
+    Ok(RawExpr { at, form })
 }
 
 fn boxed_two(alloc: Global, first: RawExpr, second: RawExpr) -> Result<Box<RawTwo>, AllocError>

@@ -88,7 +88,7 @@ fn read_source_with_tree(alloc: Global, text: &[u8]) -> Result<(Program, SourceT
     ensures one { IfErr result (λ e. e ≢ SourceFault.OutOfMemory → (f : SourceFault) → IsFaultOf text.now f → f ≡ e) }
 {
     let tree = written(alloc, text)?;
-    let program = program(alloc, &tree.names, &tree.raw)?;
+    let program = program(alloc, &tree)?;
     Ok((program, tree))
 }
 
@@ -164,18 +164,14 @@ fn fault_of(stop: Stop) -> Option<SourceFault>
 }
 
 // The program that the tree stands for, by the distinct names of its text.
-fn program(
-    alloc: Global,
-    names: &IndexSet<Vec<u8>>,
-    raw: &RawProgram,
-) -> Result<Program, SourceFault>
-    requires fits { Fits (index_set_len names.now) (read_raw raw.now) }
-    requires ascii { All IsAscii (name_bytes names.now) }
-    ensures clean { IfOk result (λ p. faults (read_raw raw.now) ≡ []) }
-    ensures meant { IfOk result (λ p. resolved (name_bytes names.now) (read_raw raw.now) ≡ read_program p) }
-    ensures refused { IfErr result (λ e. e ≢ SourceFault.OutOfMemory → IsFirstOf (faults (read_raw raw.now)) e) }
+fn program(alloc: Global, tree: &SourceTree) -> Result<Program, SourceFault>
+    requires fits { Fits (index_set_len tree.now.names) (read_raw tree.now.raw) }
+    requires ascii { All IsAscii (name_bytes tree.now.names) }
+    ensures clean { IfOk result (λ p. faults (read_raw tree.now.raw) ≡ []) }
+    ensures meant { IfOk result (λ p. resolved (name_bytes tree.now.names) (read_raw tree.now.raw) ≡ read_program p) }
+    ensures refused { IfErr result (λ e. e ≢ SourceFault.OutOfMemory → IsFirstOf (faults (read_raw tree.now.raw)) e) }
 {
-    match resolve(alloc, names, raw) {
+    match resolve(alloc, &tree.names, &tree.raw) {
         Ok(program) => Ok(program),
         Err(ResolveStop::Fault(fault)) => Err(in_text(fault)),
         Err(ResolveStop::OutOfMemory) => Err(SourceFault::OutOfMemory),

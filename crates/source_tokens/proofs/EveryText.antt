@@ -21,6 +21,7 @@ use Rattle.source_tokens.specs.Forms.{IsSignAt}
 use Rattle.source_tokens.specs.Laws.{HasTokens}
 use Rattle.source_tokens.proofs.Longest.{byte_begins_none, word_front, word_longest, number_front, number_longest, sign_front, sign_longest}
 use Rattle.source_tokens.proofs.Spelled.{spelled}
+use Rattle.source_tokens.proofs.Tables.{words, signs, word_place, sign_place, word_known, sign_known}
 use Rattle.source_tokens.proofs.Lawful.{behind_shorter, lexeme_some}
 
 -- one of a list that has a property
@@ -55,41 +56,6 @@ same_or a b = by (pointwise nat_eq a b) refl
     by false e = inr (other_text a b (sym e))
 
 -- Words and names.
-abbrev words : List Word
-words =
-    w.Priority ∷ w.Order ∷ w.Proc ∷ w.Main ∷ w.At ∷ w.Ret ∷ w.Spawn ∷ w.Sync ∷ w.Call ∷ w.Do ∷ w.Input ∷ w.Output ∷ w.If ∷ w.Else ∷ w.Case ∷ w.Inl ∷ w.Inr ∷ w.Fst ∷ w.Snd ∷ w.Not ∷ w.And
-    ∷ w.Or ∷ w.True ∷ w.False ∷ w.Unit ∷ w.Bool ∷ w.Int ∷ w.Thread ∷ []
-
-is_listed : (x : Word) → (i : ℕ) × (slice_get words i ≡ Some x)
-is_listed w.Priority = (0, refl)
-is_listed w.Order = (1, refl)
-is_listed w.Proc = (2, refl)
-is_listed w.Main = (3, refl)
-is_listed w.At = (4, refl)
-is_listed w.Ret = (5, refl)
-is_listed w.Spawn = (6, refl)
-is_listed w.Sync = (7, refl)
-is_listed w.Call = (8, refl)
-is_listed w.Do = (9, refl)
-is_listed w.Input = (10, refl)
-is_listed w.Output = (11, refl)
-is_listed w.If = (12, refl)
-is_listed w.Else = (13, refl)
-is_listed w.Case = (14, refl)
-is_listed w.Inl = (15, refl)
-is_listed w.Inr = (16, refl)
-is_listed w.Fst = (17, refl)
-is_listed w.Snd = (18, refl)
-is_listed w.Not = (19, refl)
-is_listed w.And = (20, refl)
-is_listed w.Or = (21, refl)
-is_listed w.True = (22, refl)
-is_listed w.False = (23, refl)
-is_listed w.Unit = (24, refl)
-is_listed w.Bool = (25, refl)
-is_listed w.Int = (26, refl)
-is_listed w.Thread = (27, refl)
-
 -- a lexeme that writes some token
 record Written (known : List (List ℕ)) (lexeme : List ℕ) : Type 0 where
   kind : Kind
@@ -108,7 +74,7 @@ word_written known lexeme formed = by (find (λ x. lexeme ≡ word_spelling x) (
   where
     by : Hit (λ x. lexeme ≡ word_spelling x) words ⊎ NoHit (λ x. lexeme ≡ word_spelling x) words → Written known lexeme
     by (inl h) = record { kind = k.Word h.it; later = known; spells = word h.it h.holds refl refl }
-    by (inr none) = name_written known lexeme (record { formed = formed; free = λ x e. none (is_listed x).0 x (is_listed x).1 e })
+    by (inr none) = name_written known lexeme (record { formed = formed; free = λ x e. none (word_place x) x (word_known x) e })
 
 -- Signs.
 both : {P Q : Type 0} → P ⊎ (P → ⊥) → Q ⊎ (Q → ⊥) → (P × Q) ⊎ (P × Q → ⊥)
@@ -131,31 +97,6 @@ sign_or b c s.AtMost = both (cases_eq b 60) (cases_eq c 61)
 sign_or b c s.Equal = both (cases_eq b 61) (cases_eq c 61)
 sign_or b c s.Less = less_or b c
 sign_or b c x = cases_eq b _
-
-abbrev signs : List Sign
-signs =
-    s.Arrow ∷ s.AtMost ∷ s.Equal ∷ s.Less ∷ s.Plus ∷ s.Minus ∷ s.Star ∷ s.Slash ∷ s.Percent ∷ s.OpenParen ∷ s.CloseParen ∷ s.OpenBrace ∷ s.CloseBrace ∷ s.OpenBracket ∷ s.CloseBracket
-    ∷ s.Comma ∷ s.Semicolon ∷ s.Colon ∷ []
-
-is_in_signs : (x : Sign) → (i : ℕ) × (slice_get signs i ≡ Some x)
-is_in_signs s.Arrow = (0, refl)
-is_in_signs s.AtMost = (1, refl)
-is_in_signs s.Equal = (2, refl)
-is_in_signs s.Less = (3, refl)
-is_in_signs s.Plus = (4, refl)
-is_in_signs s.Minus = (5, refl)
-is_in_signs s.Star = (6, refl)
-is_in_signs s.Slash = (7, refl)
-is_in_signs s.Percent = (8, refl)
-is_in_signs s.OpenParen = (9, refl)
-is_in_signs s.CloseParen = (10, refl)
-is_in_signs s.OpenBrace = (11, refl)
-is_in_signs s.CloseBrace = (12, refl)
-is_in_signs s.OpenBracket = (13, refl)
-is_in_signs s.CloseBracket = (14, refl)
-is_in_signs s.Comma = (15, refl)
-is_in_signs s.Semicolon = (16, refl)
-is_in_signs s.Colon = (17, refl)
 
 -- what stands at the front of some bytes
 data Front (known : List (List ℕ)) (bs : List ℕ) : Type 0 where
@@ -199,7 +140,7 @@ module _ (known : List (List ℕ)) (b : ℕ) (tail : List ℕ) where
           let n = length (sign_spelling h.it) in
           token (take n (b ∷ tail)) (drop n (b ∷ tail)) (parts n) (sign_longest (b ∷ tail) n b tail refl h.it h.holds refl)
           (record { kind = k.Sign h.it; later = known; spells = sign h.it (sign_front (b ∷ tail) n b tail refl h.it h.holds refl) refl refl })
-      by (inr none) = nothing (byte_begins_none b tail no_word no_digit (λ x at. none (is_in_signs x).0 x (is_in_signs x).1 at))
+      by (inr none) = nothing (byte_begins_none b tail no_word no_digit (λ x at. none (sign_place x) x (sign_known x) at))
 
   front : Front known (b ∷ tail)
   front = by (begins_word b) refl (is_digit b) refl

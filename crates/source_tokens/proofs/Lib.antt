@@ -8,3 +8,4 @@ pub mod Signs
 pub mod Spelled
 pub mod Steps
 pub mod Worked
+pub mod Tables

@@ -4,7 +4,6 @@ use Rattle.std.specs.Prelude.{◌⊎◌}
 use Rattle.std.specs.List.{list_all}
 use Rattle.std.proofs.lemmas.Bool.{both_ways, and_parts, false≢true}
 use Rattle.std.proofs.lemmas.List.{append-nil}
-use Rattle.std.specs.Cmp.Lexicographic.{other_text}
 use Rattle.priml_io.specs.Words.{value_of}
 use Rattle.source_tokens.specs.declared.token.Word.{Word}
 use Rattle.source_tokens.specs.declared.token.Word.TheVariants as w
@@ -16,62 +15,11 @@ use Rattle.source_tokens.specs.Lexemes.{is_word, is_number, is_digit, is_part, b
 use Rattle.source_tokens.specs.Lexes.{IsDistinct, Spells, word, sign, number, old_name, new_name}
 use Rattle.source_tokens.proofs.Longest.{digit_no_word}
 use Rattle.source_tokens.proofs.Signs.{sign_no_word, sign_no_number}
+use Rattle.source_tokens.proofs.Tables.{word_once, sign_once}
 
 word_formed : (v : Word) → is_word (word_spelling v) ≡ true
 word_formed w.Priority = refl
 word_formed _ = refl
-
-word_once : (u v : Word) → word_spelling u ≡ word_spelling v → u ≡ v
-word_once w.Priority w.Priority e = refl
-word_once w.Order w.Order e = refl
-word_once w.Proc w.Proc e = refl
-word_once w.Main w.Main e = refl
-word_once w.At w.At e = refl
-word_once w.Ret w.Ret e = refl
-word_once w.Spawn w.Spawn e = refl
-word_once w.Sync w.Sync e = refl
-word_once w.Call w.Call e = refl
-word_once w.Do w.Do e = refl
-word_once w.Input w.Input e = refl
-word_once w.Output w.Output e = refl
-word_once w.If w.If e = refl
-word_once w.Else w.Else e = refl
-word_once w.Case w.Case e = refl
-word_once w.Inl w.Inl e = refl
-word_once w.Inr w.Inr e = refl
-word_once w.Fst w.Fst e = refl
-word_once w.Snd w.Snd e = refl
-word_once w.Not w.Not e = refl
-word_once w.And w.And e = refl
-word_once w.Or w.Or e = refl
-word_once w.True w.True e = refl
-word_once w.False w.False e = refl
-word_once w.Unit w.Unit e = refl
-word_once w.Bool w.Bool e = refl
-word_once w.Int w.Int e = refl
-word_once w.Thread w.Thread e = refl
-word_once u v e = absurd (other_text (word_spelling u) (word_spelling v) refl e)
-
-sign_once : (x y : Sign) → sign_spelling x ≡ sign_spelling y → x ≡ y
-sign_once s.Arrow s.Arrow e = refl
-sign_once s.AtMost s.AtMost e = refl
-sign_once s.Equal s.Equal e = refl
-sign_once s.Less s.Less e = refl
-sign_once s.Plus s.Plus e = refl
-sign_once s.Minus s.Minus e = refl
-sign_once s.Star s.Star e = refl
-sign_once s.Slash s.Slash e = refl
-sign_once s.Percent s.Percent e = refl
-sign_once s.OpenParen s.OpenParen e = refl
-sign_once s.CloseParen s.CloseParen e = refl
-sign_once s.OpenBrace s.OpenBrace e = refl
-sign_once s.CloseBrace s.CloseBrace e = refl
-sign_once s.OpenBracket s.OpenBracket e = refl
-sign_once s.CloseBracket s.CloseBracket e = refl
-sign_once s.Comma s.Comma e = refl
-sign_once s.Semicolon s.Semicolon e = refl
-sign_once s.Colon s.Colon e = refl
-sign_once x y e = absurd (other_text (sign_spelling x) (sign_spelling y) refl e)
 
 no_word_number : (bs : List ℕ) → is_word bs ≡ true → is_number bs ≡ true → ⊥
 no_word_number [] h g = false≢true h

@@ -1,8 +1,8 @@
 -- The segments of a graph, vertex by vertex of an order.
-use Rattle.std.proofs.Common.{◌≡◌, ◌≢◌, ℕ, ◌+◌, ◌-◌, ◌<◌, ◌≤◌, List, [], ◌∷◌, ◌++◌, length, take, get_or, set, replicate, refl, sym, ap, ◌∙◌, subst, inl, inr, arith, ◌⊎◌}
+use Rattle.std.proofs.Common.{◌≡◌, ◌≢◌, ℕ, ◌+◌, ◌-◌, ◌<◌, ◌≤◌, List, [], ◌∷◌, ◌++◌, length, take, get_or, set, refl, sym, ap, ◌∙◌, subst, inl, inr, arith, ◌⊎◌}
 use Rattle.std.specs.List.{Contains}
 use Rattle.std.proofs.lemmas.Bool.{cases_eq, cases_lt}
-use Rattle.std.proofs.lemmas.List.{get_or-set_same, get_or-set_other, length-set, length-append, length-replicate, take_more, get_or_push, get_or_append_left}
+use Rattle.std.proofs.lemmas.List.{get_or-set_same, get_or-set_other, length-set, length-append, take_more, get_or_push, get_or_append_left}
 use Rattle.std.proofs.lemmas.List.Elements.{Contains-append_left, Contains-append_right, Contains-append_cases}
 use Rattle.std.proofs.lemmas.List.Sums.{sum_by-set, sum_by_push, sum_by_more_le}
 use Rattle.std.proofs.Math.Seq.{take-length}
@@ -14,22 +14,6 @@ use Rattle.cost_graph.proofs.Above.{order_below, order_short}
 use Rattle.cost_graph.proofs.Members.{decides_eq, no_member, member_cons, member_head}
 use Rattle.span_bound.specs.Inside.Segments.{Follows, IsIn, AreSegmentsOf, AreSegmentsOfFirst}
 use Rattle.span_bound.proofs.Longest.{new_at}
-
-pub cut_start : (g : CostGraph) (order : List ℕ) (n : ℕ) → n ≡ vertex_total g → AreSegmentsOfFirst g order 0 [] [] (replicate n 0)
-cut_start g order n e = record {
-  long = refl;
-  covers = length-replicate n 0 ∙ e;
-  few = omega arith;
-  total = refl;
-  stands = λ v c. absurd (no_member v c);
-  own = λ s v lt i. absurd (none s lt);
-  filled = λ s lt. absurd (none s lt);
-  follows = λ s v lt i h. absurd (none s lt);
-  earlier = λ s p lt h. absurd (none s lt);
-}
-  where
-    none : (s : ℕ) → s < 0 → ⊥
-    none s lt = omega (arith, lt)
 
 module _ (g : CostGraph) (order heads lens slots : List ℕ) (k : ℕ) (topo : IsTopological g order) (lt : k < length order) (old : AreSegmentsOfFirst g order k heads lens slots) where
   abbrev v : ℕ

@@ -8,7 +8,7 @@ use Rattle.cost_graph.specs.Graph.{CostGraph, Edge, IsGraph, vertex_total, paren
 use Rattle.cost_graph.proofs.Above.{proper_first, first_proper, proper_last, last_proper}
 use Rattle.cost_graph.proofs.Members.{no_member, member_cons, member_head, member_tail}
 use Rattle.cost_graph.proofs.ReadyNext.{child_of, parent_of_child, edge_in}
-use Rattle.span_bound.specs.Words.{HasBit}
+use Rattle.span_bound.specs.Inside.Words.{HasBit}
 use Rattle.span_bound.specs.Inside.Segments.{Follows, IsIn, AreSegmentsOf, images, last_of}
 
 pub in_images : (slots vs : List ℕ) (v : ℕ) → Contains vs v → Contains (images slots vs) (get_or slots v 0)

@@ -1,13 +1,13 @@
 -- The words of a pass over the segments, turn by turn.
-use Rattle.std.proofs.Common.{◌≡◌, ◌↔◌, ℕ, suc, ◌+◌, ◌<◌, ◌≤◌, List, length, get_or, set, replicate, sym, ap, ◌∙◌, subst, inl, inr, arith}
+use Rattle.std.proofs.Common.{◌≡◌, ◌↔◌, ℕ, suc, ◌+◌, ◌<◌, ◌≤◌, List, length, get_or, set, sym, ap, ◌∙◌, subst, inl, inr, arith}
 use Rattle.std.specs.List.{All}
 use Rattle.std.specs.Int.{bit_at}
 use Rattle.std.proofs.lemmas.Bool.{cases_eq}
-use Rattle.std.proofs.lemmas.List.{get_or-map, get_or-set_same, get_or-set_other, length-map, length-set, length-replicate}
+use Rattle.std.proofs.lemmas.List.{get_or-map, get_or-set_same, get_or-set_other, length-map, length-set}
 use Rattle.std.proofs.lemmas.List.Elements.{All-from_get_or}
 use Rattle.cost_graph.specs.Walks.{HasNoCycle}
 use Rattle.cost_graph.specs.Graph.{CostGraph, Edge, IsGraph, IsProperAncestor, vertex_total, parents_at, children_at}
-use Rattle.span_bound.specs.Words.{AreMarkedForEach, HasBit}
+use Rattle.span_bound.specs.Inside.Words.{AreMarkedForEach, HasBit}
 use Rattle.span_bound.specs.Inside.Segments.{IsIn, AreSegmentsOf, images, last_of, spread}
 use Rattle.span_bound.proofs.Kinship.{above_same, above_last, beneath_same, beneath_head}
 
@@ -20,9 +20,6 @@ images_below g heads lens slots vs cut h =
     All-from_get_or (λ s. s < length heads) (images slots vs) 0 (λ k lt.
     let k_in : k < length vs = let e = length-map vs (λ v. get_or slots v 0) in omega (arith, lt, e) in
     subst (λ s. s < length heads) (sym (get_or-map (λ v. get_or slots v 0) vs k 0 0 k_in)) (cut.stands (get_or vs k 0) (h k 0 k_in)).0)
-
-pub images_fit : (g : CostGraph) (slots vs : List ℕ) (n : ℕ) → n ≡ vertex_total g → length slots ≡ n → All (λ v. v < vertex_total g) vs → All (λ v. v < length slots) vs
-images_fit g slots vs n e f h = λ k d lt. omega (arith, e, f, h k d lt)
 
 -- the places of targets in words of segments
 abbrev pub Owns : List ℕ → List ℕ → List ℕ → Type 0
@@ -66,13 +63,6 @@ module _ (g : CostGraph) (heads lens slots : List ℕ) (ok : IsGraph g) (acyclic
     pub above_each_on : IsAboveEach g heads slots targets (set words place word) place
     above_each_on = record { size = length-set words place word ∙ now.size; low = omega (arith, now.low); each = one }
 
-  pub above_each_start : (targets : List ℕ) (n : ℕ) → n ≡ length heads → IsAboveEach g heads slots targets (replicate n 0) n
-  above_each_start targets n e = record {
-    size = length-replicate n 0 ∙ e;
-    low = omega (arith, e);
-    each = λ i v lt v_lt le. absurd (omega (arith, (cut.stands v v_lt).0, le, e));
-  }
-
   pub above_each_end : (targets words : List ℕ) → IsAboveEach g heads slots targets words 0 → AreMarkedForEach g (length targets) (λ i v. IsProperAncestor g v (get_or targets i 0)) (spread slots words)
   above_each_end targets words now = record {
     covers = length-map slots (λ s. get_or words s 0) ∙ cut.covers;
@@ -98,9 +88,6 @@ module _ (g : CostGraph) (heads lens slots : List ℕ) (ok : IsGraph g) (acyclic
 
     pub beneath_each_on : IsBeneathEach g heads slots sources (set words place word) (place + 1)
     beneath_each_on = record { size = length-set words place word ∙ now.size; each = each_one }
-
-  pub beneath_each_start : (sources : List ℕ) (n : ℕ) → n ≡ length heads → IsBeneathEach g heads slots sources (replicate n 0) 0
-  beneath_each_start sources n e = record { size = length-replicate n 0 ∙ e; each = λ i v lt v_lt le. absurd (omega (arith, le)) }
 
   pub beneath_each_end : (sources words : List ℕ) (place : ℕ) → place ≡ length heads → IsBeneathEach g heads slots sources words place
       → AreMarkedForEach g (length sources) (λ i v. IsProperAncestor g (get_or sources i 0) v) (spread slots words)

@@ -6,7 +6,8 @@ use Rattle.std.proofs.lemmas.List.{length-replicate}
 use Rattle.std.proofs.Math.Seq.{take-length}
 use Rattle.priority_order.proofs.Decided.{below_or_not}
 use Rattle.cost_graph.specs.Graph.{CostGraph, vertex_total, thread_total, thread_at, vertex_priority, first_vertex, last_vertex, parents_at, children_at, IsGraph, IsAcyclic, IsProperAncestor}
-use Rattle.cost_graph.specs.Order.{IsTopological, HasWay, AreMarked}
+use Rattle.cost_graph.specs.Order.{IsTopological, AreMarked}
+use Rattle.cost_graph.specs.Inside.Order.{HasWay}
 use Rattle.cost_graph.proofs.Above.{IsAbove, above_on, above_start, above_end, IsBeneath, beneath_on, beneath_start, beneath_end, order_below}
 use Rattle.cost_graph.proofs.Ends.{last_below}
 use Rattle.cost_graph.proofs.Members.{no_member, member_cons, member_head, member_tail}

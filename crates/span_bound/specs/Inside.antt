@@ -1,1 +1,4 @@
 pub mod Segments
+pub mod Level
+pub mod Words
+pub mod Work

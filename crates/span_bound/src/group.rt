@@ -4,8 +4,9 @@ ghost use Rattle.cost_graph.specs.Graph.{thread_total, first_vertex, last_vertex
 ghost use Rattle.cost_graph.specs.declared.graph.Thread.{Thread as TheThread};
 ghost use Rattle.cost_graph.specs.Order.{IsTopological};
 ghost use Rattle.span_bound.specs.declared.size.Measure.{Measure as TheMeasure};
-ghost use Rattle.span_bound.specs.Work.{AreMeasures, IsMeasure};
-ghost use Rattle.span_bound.specs.Words.{places_in};
+ghost use Rattle.span_bound.specs.Work.{IsMeasure};
+ghost use Rattle.span_bound.specs.Inside.Work.{AreMeasures};
+ghost use Rattle.span_bound.specs.Inside.Words.{places_in};
 ghost use Rattle.span_bound.specs.Inside.Segments.{AreSegments};
 
 use crate::competitors::{competitors_of_each, counts_of_each};

@@ -2,8 +2,8 @@ ghost use Rattle.std.specs.Prelude.{◌≡◌, ℕ, ◌+◌, ◌<◌, ◌≤◌,
 ghost use Rattle.std.specs.List.{All, Contains};
 ghost use Rattle.std.specs.Int.{bit_at};
 ghost use Rattle.cost_graph.specs.Graph.{vertex_total};
-ghost use Rattle.span_bound.specs.Level.{IsLevel};
-ghost use Rattle.span_bound.specs.Words.{column, places_in};
+ghost use Rattle.span_bound.specs.Inside.Level.{IsLevel};
+ghost use Rattle.span_bound.specs.Inside.Words.{column, places_in};
 ghost use Rattle.span_bound.specs.Inside.Segments.{AreSegments, last_of, spread};
 
 use crate::segments::Segments;

@@ -2,7 +2,7 @@ ghost use Rattle.std.specs.Prelude.{◌≡◌, ℕ, ◌<◌, ◌≤◌, ◌↔�
 ghost use Rattle.std.specs.List.{All};
 ghost use Rattle.std.specs.Int.{bit_at};
 ghost use Rattle.cost_graph.specs.Graph.{vertex_total, IsAcyclic, IsProperAncestor};
-ghost use Rattle.span_bound.specs.Words.{AreMarkedForEach, HasBit};
+ghost use Rattle.span_bound.specs.Inside.Words.{AreMarkedForEach, HasBit};
 ghost use Rattle.span_bound.specs.Inside.Segments.{AreSegments, last_of, spread};
 
 use crate::segments::{Segments, images_of};

@@ -1,6 +1,6 @@
 -- Several steps of a task.
 use Rattle.std.proofs.Common.{◌≡◌, ℕ, ◌+◌, ◌<◌, ◌≤◌, List, [], ◌∷◌, ◌++◌, length, true, false, ◌||◌, true≢false, Option, Some, None, ◌⊎◌, inl, inr, refl, sym, ◌∙◌, ap, subst, arith}
-use Rattle.std.specs.Prelude.{IsSome, is_some}
+use Rattle.std.specs.Prelude.{is_some}
 use Rattle.std.proofs.lemmas.List.{length_push}
 use Rattle.std.proofs.lemmas.Bool.{cases_lt}
 use Rattle.priml_syntax.specs.declared.event.Event.TheVariants.{End}
@@ -9,27 +9,11 @@ use Rattle.priml_syntax.specs.Events.{AllJoins, one_end}
 use Rattle.core_steps.specs.Determined.{one_live}
 use Rattle.core_steps.specs.Locals.{ended_with}
 use Rattle.core_steps.specs.Steps.{Job}
-use Rattle.task_state.specs.Tasks.{TaskFields, OfJob, has_ended, unfed}
+use Rattle.task_state.specs.Tasks.{TaskFields, has_ended}
 use Rattle.task_state.specs.Turns.{AllGoOn, LastIs, Turn, WasFed}
-use Rattle.task_state.specs.Inside.Steps.{IsChildOf, Named, Stepped, WentOn}
+use Rattle.task_state.specs.Inside.Steps.{IsChildOf, Stepped, WentOn}
 use Rattle.task_state.proofs.Events.{end_of, joins_push, on_of, on_push}
 use Rattle.task_state.proofs.States.{not_over}
-
--- before the first step
-pub went_none : (job : Job) (t t' : TaskFields) → OfJob job t → t.pending ≡ [] → has_ended t ≡ false → Named t t' → WentOn job t 0 t'
-went_none job t t' h p live n = subst (WentOn job t 0) (sym n.same) (record {
-  task = subst (OfJob job) n.same (n.task job h);
-  long = ap length p;
-  on = subst AllGoOn (sym p) tt;
-  live = live;
-  name = n.name;
-  path = refl;
-  prio = refl;
-  steps = omega arith;
-  first = λ z. (refl, refl);
-  later = λ z. absurd (omega (arith, z));
-  joins = subst (AllJoins (WasFed t)) (sym p) tt;
-})
 
 module _ (job : Job) (t : TaskFields) (n : ℕ) (t' : TaskFields) (w : WentOn job t n t') (child : Option TaskFields) (t'' : TaskFields) (s : Stepped job t' child t'') where
   -- what was fed before the step was fed at first
@@ -95,8 +79,3 @@ turn_went job t n q t' w l = record {
   still = λ z. w.first (sym w.long ∙ z);
   used = λ z. w.later (omega (arith, z, w.long));
 }
-
--- a task that awaits a thread was not fed
-pub awaits_unfed : (o : Option Outcome') (b : Option (List ℕ)) → IsSome (unfed o b) → o ≡ None
-awaits_unfed None b h = refl
-awaits_unfed (Some o) b h = absurd (true≢false (sym h))

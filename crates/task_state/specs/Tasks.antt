@@ -22,7 +22,14 @@ pub record TaskFields : Type 0 where
   pub over : Bool
 
 abbrev pub read_task : Task → TaskFields
-read_task t = record { local = read_local t.local.value; pending = t.pending.items; fed = option_map read_outcome t.fed; variable = t.variable; name = t.name; over = t.over }
+read_task t = record {
+  local = read_local t.local.value;
+  pending = t.pending.items;
+  fed = option_map read_outcome t.fed;
+  variable = t.variable;
+  name = t.name;
+  over = t.over;
+}
 
 -- the task of a thread that has not started
 abbrev pub begun : LocalFields → TaskFields

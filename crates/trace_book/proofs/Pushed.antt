@@ -1,5 +1,5 @@
 -- Records of logs, one after the other.
-use Rattle.std.proofs.Common.{◌≡◌, ℕ, List, [], ◌∷◌, ◌++◌, Option, Some, None, refl, sym, ap, subst, append_assoc}
+use Rattle.std.proofs.Common.{◌≡◌, ℕ, List, [], ◌∷◌, ◌++◌, Option, Some, None, refl, sym, ap, subst}
 use Rattle.std.specs.Option.{option_map}
 use Rattle.std.proofs.lemmas.Option.{none-some, same_Some}
 use Rattle.priml_syntax.specs.declared.value.Outcome.{Outcome}
@@ -41,13 +41,3 @@ entries_rise (l ∷ ls) es r e = go (entry_of l) (entries_of ls) refl (λ xs c. 
 pub pushed_first : (es : Option (List Entry)) (new : List Entry) → option_map (λ (xs : List Entry). [] ++ xs) es ≡ Some new → es ≡ Some new
 pushed_first None new e = e
 pushed_first (Some xs) new e = e
-
--- one record more
-pub pushed_more : (old : List Entry) (e : Entry) (es : Option (List Entry)) → option_map (λ (xs : List Entry). (old ++ e ∷ []) ++ xs) es ≡ option_map (λ (xs : List Entry). old ++ xs) (both (Some e) es)
-pushed_more old e None = refl
-pushed_more old e (Some xs) = ap Some (append_assoc old (e ∷ []) xs)
-
--- where one has none
-pub pushed_none : (old : List Entry) (es : Option (List Entry)) → None ≡ option_map (λ (xs : List Entry). old ++ xs) es → es ≡ None
-pushed_none old None e = refl
-pushed_none old (Some xs) e = absurd (none-some (old ++ xs) e)

@@ -1,5 +1,5 @@
 -- What is in scope has a type, or a first fault.
-use Rattle.std.proofs.Common.{◌≡◌, ℕ, zero, suc, ◌+◌, ◌<◌, List, [], ◌∷◌, ◌++◌, length, map, refl, sym, subst, ◌⊎◌, inl, inr, arith, length-append}
+use Rattle.std.proofs.Common.{◌≡◌, ◌≢◌, ℕ, zero, suc, ◌+◌, ◌<◌, List, [], ◌∷◌, ◌++◌, length, map, refl, sym, subst, ◌⊎◌, inl, inr, arith, length-append}
 use Rattle.std.specs.Prelude.{slice_get, Some}
 use Rattle.priml_syntax.specs.declared.prio.Prio.{Prio}
 use Rattle.priml_syntax.specs.declared.expr.Op.{Op}
@@ -47,37 +47,33 @@ module _ (G : VarTypes) (at : ℕ) where
         | inr wide ↦ inr (Wide, at, inr (inr ((A.0, B.0, A.1, B.1, wide, refl), refl)))
       ]
 
+  -- over one part, where a test of the part's type decides
+  over : (e a : Term) (Fails : Type' → Type 0) → TermDecided G a → ((A : Type') → HasType G a A → ((T : Type') × HasType G e T) ⊎ Fails A)
+      → ((T : Type') × HasType G e T) ⊎ ((k : TypeKind) × (p : ℕ) × (TermFaults a G k p ⊎ (((A : Type') × HasType G a A × Fails A × (k ≡ Mismatch)) × (p ≡ at))))
+  over e a Fails (inr f) test = inr (f.0, f.1, inl f.2)
+  over e a Fails (inl A) test = elim (test A.0 A.1) [ inl h ↦ inl h | inr none ↦ inr (Mismatch, at, inr ((A.0, A.1, none, refl), refl)) ]
+
   first_decided : (a : Term) → TermDecided G a → TermDecided G (first at a)
-  first_decided a (inr f) = inr (f.0, f.1, inl f.2)
-  first_decided a (inl A) =
-      elim (pair_or_not A.0) [
-        | inl h ↦ inl (h.0, (h.1, subst (HasType G a) h.2 A.1))
-        | inr none ↦ inr (Mismatch, at, inr ((A.0, A.1, none, refl), refl))
-      ]
+  first_decided a d =
+      over (first at a) a (λ A. (B C : Type') → A ≢ pair B C) d
+      (λ A x. elim (pair_or_not A) [ inl h ↦ inl (h.0, (h.1, subst (HasType G a) h.2 x)) | inr none ↦ inr none ])
 
   second_decided : (a : Term) → TermDecided G a → TermDecided G (second at a)
-  second_decided a (inr f) = inr (f.0, f.1, inl f.2)
-  second_decided a (inl A) =
-      elim (pair_or_not A.0) [
-        | inl h ↦ inl (h.1, (h.0, subst (HasType G a) h.2 A.1))
-        | inr none ↦ inr (Mismatch, at, inr ((A.0, A.1, none, refl), refl))
-      ]
+  second_decided a d =
+      over (second at a) a (λ A. (B C : Type') → A ≢ pair B C) d
+      (λ A x. elim (pair_or_not A) [ inl h ↦ inl (h.1, (h.0, subst (HasType G a) h.2 x)) | inr none ↦ inr none ])
 
   left_decided : (S : Type') (a : Term) → TermDecided G a → TermDecided G (left at S a)
-  left_decided S a (inr f) = inr (f.0, f.1, inl f.2)
-  left_decided S a (inl A) =
-      elim (left_or_not S A.0) [
-        | inl h ↦ inl (S, (A.0, h.0, h.1, A.1, refl))
-        | inr none ↦ inr (Mismatch, at, inr ((A.0, A.1, none, refl), refl))
-      ]
+  left_decided S a d =
+      over (left at S a) a (λ A. (B : Type') → S ≢ sum A B) d (λ A x. elim (left_or_not S A) [ inl h ↦ inl (S, (A, h.0, h.1, x, refl)) | inr none ↦ inr none ])
 
   right_decided : (S : Type') (a : Term) → TermDecided G a → TermDecided G (right at S a)
-  right_decided S a (inr f) = inr (f.0, f.1, inl f.2)
-  right_decided S a (inl A) =
-      elim (right_or_not S A.0) [
-        | inl h ↦ inl (S, (h.0, A.0, h.1, A.1, refl))
-        | inr none ↦ inr (Mismatch, at, inr ((A.0, A.1, none, refl), refl))
-      ]
+  right_decided S a d =
+      over (right at S a) a (λ A. (B : Type') → S ≢ sum B A) d (λ A x. elim (right_or_not S A) [ inl h ↦ inl (S, (h.0, A, h.1, x, refl)) | inr none ↦ inr none ])
+
+  negated_decided : (a : Term) → TermDecided G a → TermDecided G (negated at a)
+  negated_decided a d =
+      over (negated at a) a (λ A. A ≢ bool) d (λ A x. elim (same_type_or_not A bool) [ inl h ↦ inl (bool, (subst (HasType G a) h x, refl)) | inr none ↦ inr none ])
 
   binary_decided : (op : Op) (a b : Term) → TermDecided G a → TermDecided G b → TermDecided G (binary at op a b)
   binary_decided op a b (inr f) rest = inr (f.0, f.1, inl f.2)
@@ -86,14 +82,6 @@ module _ (G : VarTypes) (at : ℕ) where
       elim (both_or_either (same_type_or_not A.0 (operand op)) (same_type_or_not B.0 (operand op))) [
         | inl h ↦ inl (gives op, (subst (HasType G a) h.0 A.1, subst (HasType G b) h.1 B.1, refl))
         | inr none ↦ inr (Mismatch, at, inr (inr ((A.0, B.0, A.1, B.1, none, refl), refl)))
-      ]
-
-  negated_decided : (a : Term) → TermDecided G a → TermDecided G (negated at a)
-  negated_decided a (inr f) = inr (f.0, f.1, inl f.2)
-  negated_decided a (inl A) =
-      elim (same_type_or_not A.0 bool) [
-        | inl h ↦ inl (bool, (subst (HasType G a) h A.1, refl))
-        | inr none ↦ inr (Mismatch, at, inr ((A.0, A.1, none, refl), refl))
       ]
 
 term_decided : (e : Term) (G : VarTypes) → InScope (length G) e → TermDecided G e

@@ -12,3 +12,4 @@ pub mod OneFault
 pub mod TypeForms
 pub mod BodiesDecided
 pub mod TypesDecided
+pub mod Firsts

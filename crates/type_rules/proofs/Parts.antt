@@ -23,16 +23,17 @@ use Rattle.type_rules.specs.Answers.{CodeAnswer}
 use Rattle.type_rules.specs.Typable.{setting_of, RoutineTyped, Part, a_pair, a_site, a_routine, pair_parts, routine_parts, routines_parts, parts, PartTyped, FirstPartFault}
 use Rattle.type_rules.specs.Stops.{PartsStop, IsTypeStop, RoutineAnswer}
 use Rattle.type_rules.proofs.Sites.{code_fault}
-use Rattle.type_rules.proofs.Programs.{params_extend, sites_typed, routine_typed, routines_typed, pairs_typed, not_typable, part_left, part_right, from_sites}
+use Rattle.type_rules.proofs.Firsts.{first_left, first_right}
+use Rattle.type_rules.proofs.Programs.{params_extend, sites_typed, routine_typed, routines_typed, pairs_typed, not_typable, from_sites}
 
 module _ (p : Tree) where
   -- a stop within a list of parts is one within a longer list
   pub stop_left : (xs ys : List Part) (stop : TypeStop) → PartsStop p xs stop → PartsStop p (xs ++ ys) stop
-  stop_left xs ys (Fault f) h = part_left p xs ys f.kind f.at h
+  stop_left xs ys (Fault f) h = first_left xs ys f.kind f.at h
   stop_left xs ys OutOfMemory h = tt
 
   pub stop_right : (xs ys : List Part) (stop : TypeStop) → All (PartTyped p) xs → PartsStop p ys stop → PartsStop p (xs ++ ys) stop
-  stop_right xs ys (Fault f) t h = part_right p xs ys f.kind f.at t h
+  stop_right xs ys (Fault f) t h = first_right xs ys f.kind f.at t h
   stop_right xs ys OutOfMemory t h = tt
 
   -- a stop at one of the procedures, where those before it are typed
@@ -76,7 +77,7 @@ module _ (p : Tree) where
   }
   first_cycle n (x ∷ ds) (suc i) d lt e c none =
       let same : n + suc i ≡ suc n + i = omega arith in
-      part_right p (a_pair n x.at ∷ []) (pair_parts (suc n) ds) Cycle d.at (All-cons (PartTyped p) (a_pair n x.at) [] (none n (omega arith)) (λ k y l. absurd (omega arith)))
+      first_right (a_pair n x.at ∷ []) (pair_parts (suc n) ds) Cycle d.at (All-cons (PartTyped p) (a_pair n x.at) [] (none n (omega arith)) (λ k y l. absurd (omega arith)))
       (first_cycle (suc n) ds i d (omega arith) e (subst (Closes (pairs_of p)) same c) (λ j l. none j (omega (arith, same, l))))
 
   pub cycle_stop : (ds : List (ℕ × ℕ × ℕ)) (i : ℕ) (e : ℕ × ℕ × ℕ) (stop : TypeStop) → p.declared ≡ map read_pair ds → IsFirstCycle (pairs_of p) i → stop ≡ Fault (record { kind = Cycle; at = (get_or ds i e).0 }) → PartsStop p (pair_parts 0 p.declared) stop

@@ -12,6 +12,7 @@ use Rattle.type_rules.specs.Nodes.{parameter, Extends, code_sites, FirstFault}
 use Rattle.type_rules.specs.Typable.{setting_of, RoutineTyped, Typable, Part, a_pair, a_site, a_routine, pair_parts, routine_parts, routines_parts, parts, PartTyped, PartFails, FirstPartFault, HasTypeFault}
 use Rattle.priml_syntax.specs.Tree.{Routine, Declared, Tree, pairs_of}
 use Rattle.type_rules.proofs.Unique.{same_code}
+use Rattle.type_rules.proofs.Firsts.{first_left}
 use Rattle.type_rules.proofs.Sites.{code_typed}
 use Rattle.type_rules.proofs.Refutes.{fault_untyped}
 
@@ -55,20 +56,14 @@ module _ (p : Tree) where
   pub not_typable : (k : TypeKind) (at : ℕ) → HasTypeFault p k at → Typable p → ⊥
   not_typable k at f t = part_untyped f.faulty k f.fails (All-contains (PartTyped p) (parts p) f.faulty (all_typed t) (subst (λ xs. Contains xs f.faulty) (sym f.is) (Contains-append_right f.before (f.faulty ∷ f.after) f.faulty (0, omega arith, refl))))
 
-  pub part_left : (xs ys : List Part) (k : TypeKind) (at : ℕ) → FirstPartFault p xs k at → FirstPartFault p (xs ++ ys) k at
-  part_left xs ys k at f = record { before = f.before; faulty = f.faulty; after = f.after ++ ys; is = ap (λ zs. zs ++ ys) f.is ∙ append_assoc f.before (f.faulty ∷ f.after) ys; typed = f.typed; fails = f.fails; there = f.there }
-
-  pub part_right : (xs ys : List Part) (k : TypeKind) (at : ℕ) → All (PartTyped p) xs → FirstPartFault p ys k at → FirstPartFault p (xs ++ ys) k at
-  part_right xs ys k at t f = record { before = xs ++ f.before; faulty = f.faulty; after = f.after; is = ap (λ zs. xs ++ zs) f.is ∙ sym (append_assoc xs f.before (f.faulty ∷ f.after)); typed = All-append (PartTyped p) xs f.before t f.typed; fails = f.fails; there = f.there }
-
   -- the first fault of a body is that of its routine
   pub from_sites : (f : Routine) (k : TypeKind) (at : ℕ) → FirstFault (setting_of p f) (code_sites f.body f.declares.own (map parameter f.declares.params)) k at → FirstPartFault p (routine_parts f) k at
-  from_sites f k at x = part_left (map (a_site f) (code_sites f.body f.declares.own (map parameter f.declares.params))) (a_routine f ∷ []) k at (record {
+  from_sites f k at x = first_left (map (a_site f) (code_sites f.body f.declares.own (map parameter f.declares.params))) (a_routine f ∷ []) k at (record {
     before = map (a_site f) x.before;
     faulty = a_site f x.faulty;
     after = map (a_site f) x.after;
     is = ap (map (a_site f)) x.is ∙ map-append (a_site f) x.before (x.faulty ∷ x.after);
     typed = All-map (PartTyped p) (a_site f) x.before x.typed;
-    fails = x.fault;
+    fails = x.fails;
     there = x.there;
   })

@@ -89,7 +89,7 @@ fault_untyped s n k f t = node_untyped n.node s f.scope k f.fails (subst (λ G. 
 
 -- not all nodes have types where there is a first fault
 pub not_all : (s : Context) (all : List Site) (k : TypeKind) (p : ℕ) → FirstFault s all k p → All (IsTyped s) all → ⊥
-not_all s all k p f t = fault_untyped s f.faulty k f.fault (All-contains (IsTyped s) all f.faulty t (subst (λ xs. Contains xs f.faulty) (sym f.is) (Contains-append_right f.before (f.faulty ∷ f.after) f.faulty (0, omega arith, refl))))
+not_all s all k p f t = fault_untyped s f.faulty k f.fails (All-contains (IsTyped s) all f.faulty t (subst (λ xs. Contains xs f.faulty) (sym f.is) (Contains-append_right f.before (f.faulty ∷ f.after) f.faulty (0, omega arith, refl))))
 
 -- a body with a first fault has no type
 pub no_type : (s : Context) (b : Body) (r : Prio) (bs : Binders) (G : VarTypes) (T : Type') (k : TypeKind) (p : ℕ) → Extends s [] bs G → FirstFault s (body_sites b r bs) k p → BodyHas b s G r T → ⊥

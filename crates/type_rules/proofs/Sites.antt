@@ -1,5 +1,5 @@
 -- A typed block has typed nodes alone, and a fault by cases is that of the first node without a type.
-use Rattle.std.proofs.Common.{◌≡◌, ℕ, ◌≤◌, List, [], ◌∷◌, ◌++◌, refl, sym, ap, ◌∙◌, subst, Some, inl, inr, append_assoc, arith}
+use Rattle.std.proofs.Common.{◌≡◌, ℕ, ◌≤◌, List, [], ◌∷◌, ◌++◌, refl, sym, ap, ◌∙◌, subst, Some, inl, inr, arith}
 use Rattle.std.specs.Prelude.{slice_get}
 use Rattle.std.specs.List.{All}
 use Rattle.std.proofs.lemmas.List.Elements.{All-append, All-push}
@@ -11,6 +11,7 @@ use Rattle.type_rules.specs.Typing.{VarTypes, Context, HasType, HaveTypes, CodeH
 use Rattle.priml_syntax.specs.Tree.{Signature}
 use Rattle.type_rules.specs.Nodes.{bound, left_of, right_of, Binders, Extends, Node, a_term, an_act, an_end, a_test, Site, place, place_of_term, site, term_sites, terms_sites, code_sites, body_sites, act_sites, IsTyped, NodeTyped, NodeFails, TermFails, ActFails, CallFails, FirstFault, rank}
 use Rattle.type_rules.specs.Faults.{TermFaults, TermsFault, ActFault, CodeFaults, BodyFaults, PartsFault}
+use Rattle.type_rules.proofs.Firsts.{first_left, first_right}
 use Rattle.type_rules.proofs.Unique.{extends-push}
 
 all_none : {X : Type 0} (P : X → Type 0) → All P []
@@ -73,13 +74,6 @@ module _ (s : Context) where
     parts_typed input r bs G T x h = all_none (IsTyped s)
     parts_typed (output e) r bs G T x h = term_typed e bs G int x h.0
 
-  -- the first fault of a list that is followed, or preceded, by others
-  first_left : (xs ys : List Site) (k : TypeKind) (p : ℕ) → FirstFault s xs k p → FirstFault s (xs ++ ys) k p
-  first_left xs ys k p f = record { before = f.before; faulty = f.faulty; after = f.after ++ ys; is = ap (λ zs. zs ++ ys) f.is ∙ append_assoc f.before (f.faulty ∷ f.after) ys; typed = f.typed; fault = f.fault; there = f.there }
-
-  first_right : (xs ys : List Site) (k : TypeKind) (p : ℕ) → All (IsTyped s) xs → FirstFault s ys k p → FirstFault s (xs ++ ys) k p
-  first_right xs ys k p t f = record { before = xs ++ f.before; faulty = f.faulty; after = f.after; is = ap (λ zs. xs ++ zs) f.is ∙ sym (append_assoc xs f.before (f.faulty ∷ f.after)); typed = and_then xs f.before t f.typed; fault = f.fault; there = f.there }
-
   here : (bs : Binders) (n : Node) (G : VarTypes) (k : TypeKind) (p : ℕ) → Extends s [] bs G → NodeFails s G n k → ((l : TypeKind) → NodeFails s G n l → rank k ≤ rank l) → p ≡ place n → (ys : List Site) → FirstFault s (site bs n ++ ys) k p
   here bs n G k p x h least e ys = record {
     before = [];
@@ -87,20 +81,12 @@ module _ (s : Context) where
     after = ys;
     is = refl;
     typed = all_none (IsTyped s);
-    fault = record { scope = G; of_binders = x; fails = h; least = least };
+    fails = record { scope = G; of_binders = x; fails = h; least = least };
     there = e;
   }
 
   here_last : (bs : Binders) (n : Node) (G : VarTypes) (k : TypeKind) (p : ℕ) → Extends s [] bs G → NodeFails s G n k → ((l : TypeKind) → NodeFails s G n l → rank k ≤ rank l) → p ≡ place n → FirstFault s (site bs n) k p
-  here_last bs n G k p x h least e = record {
-    before = [];
-    faulty = record { binders = bs; node = n };
-    after = [];
-    is = refl;
-    typed = all_none (IsTyped s);
-    fault = record { scope = G; of_binders = x; fails = h; least = least };
-    there = e;
-  }
+  here_last bs n G k p x h least e = here bs n G k p x h least e []
 
   -- an expression has at most one kind of fault
   ranks : (k l m : TypeKind) → k ≡ m → l ≡ m → rank k ≤ rank l

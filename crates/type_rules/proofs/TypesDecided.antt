@@ -18,7 +18,8 @@ use Rattle.type_rules.specs.Nodes.{parameter}
 use Rattle.type_rules.specs.Typable.{setting_of, RoutineTyped, Typable, Part, a_pair, pair_parts, routine_parts, routines_parts, PartTyped, FirstPartFault, HasTypeFault, EachIsTypedOrFaulty}
 use Rattle.type_rules.proofs.InScope.{routine_in}
 use Rattle.type_rules.proofs.Sites.{code_fault}
-use Rattle.type_rules.proofs.Programs.{params_extend, routine_typed, part_left, part_right, from_sites}
+use Rattle.type_rules.proofs.Firsts.{first_left, first_right}
+use Rattle.type_rules.proofs.Programs.{params_extend, routine_typed, from_sites}
 use Rattle.type_rules.proofs.Parts.{stop_in_pairs, stop_in_procs, stop_in_mains, result_stop}
 use Rattle.type_rules.proofs.TypeForms.{at_most_or_more, same_type_or_not}
 use Rattle.type_rules.proofs.BodiesDecided.{CodeDecided, code_decided}
@@ -53,7 +54,7 @@ module _ (p : Tree) where
   pairs_decided n (d ∷ ds) = go (closes_or_not (pairs_of p) n) (pairs_decided (suc n) ds) where
     go : Closes (pairs_of p) n ⊎ (Closes (pairs_of p) n → ⊥) → ((j : ℕ) → suc n ≤ j → j < suc n + length ds → Closes (pairs_of p) j → ⊥) ⊎ FaultIn (pair_parts (suc n) ds) → ((j : ℕ) → n ≤ j → j < n + length (d ∷ ds) → Closes (pairs_of p) j → ⊥) ⊎ FaultIn (pair_parts n (d ∷ ds))
     go (inl c) rest = inr (Cycle, d.at, record { before = []; faulty = a_pair n d.at; after = pair_parts (suc n) ds; is = refl; typed = All-nil (PartTyped p); fails = (c, refl); there = refl })
-    go (inr open_) (inr f) = inr (f.0, f.1, part_right p (a_pair n d.at ∷ []) (pair_parts (suc n) ds) f.0 f.1 (All-cons (PartTyped p) (a_pair n d.at) [] open_ (All-nil (PartTyped p))) f.2)
+    go (inr open_) (inr f) = inr (f.0, f.1, first_right (a_pair n d.at ∷ []) (pair_parts (suc n) ds) f.0 f.1 (All-cons (PartTyped p) (a_pair n d.at) [] open_ (All-nil (PartTyped p))) f.2)
     go (inr open_) (inl none) = inl (λ j low high c. at j low high c (at_most_or_more j n)) where
       at : (j : ℕ) → n ≤ j → j < n + length (d ∷ ds) → Closes (pairs_of p) j → (j ≤ n) ⊎ (n < j) → ⊥
       at j low high c (inl h) = let same : j ≡ n = omega (arith, low, h) in open_ (subst (Closes (pairs_of p)) same c)
@@ -84,8 +85,8 @@ module _ (p : Tree) where
   routines_decided [] h = inl (All-nil (RoutineTyped p))
   routines_decided (f ∷ fs) h = go (routine_decided f (All-head (RoutineIn p) f fs h)) (routines_decided fs (All-tail (RoutineIn p) f fs h)) where
     go : RoutineTyped p f ⊎ FaultIn (routine_parts f) → All (RoutineTyped p) fs ⊎ FaultIn (routines_parts fs) → All (RoutineTyped p) (f ∷ fs) ⊎ FaultIn (routines_parts (f ∷ fs))
-    go (inr x) rest = inr (x.0, x.1, part_left p (routine_parts f) (routines_parts fs) x.0 x.1 x.2)
-    go (inl t) (inr x) = inr (x.0, x.1, part_right p (routine_parts f) (routines_parts fs) x.0 x.1 (routine_typed p f t) x.2)
+    go (inr x) rest = inr (x.0, x.1, first_left (routine_parts f) (routines_parts fs) x.0 x.1 x.2)
+    go (inl t) (inr x) = inr (x.0, x.1, first_right (routine_parts f) (routines_parts fs) x.0 x.1 (routine_typed p f t) x.2)
     go (inl t) (inl all) = inl (All-cons (RoutineTyped p) f fs t all)
 
   abbrev Decided : Type 0

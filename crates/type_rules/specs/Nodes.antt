@@ -175,7 +175,8 @@ ActFails s G r (output e) k = (A : Type') × HasType G e A × (A ≢ int) × (k 
 abbrev pub EndFails : Context → VarTypes → Prio → Body → TypeKind → Type 0
 EndFails s G r (bind at a rest) k = ⊥
 EndFails s G r (ret_tail at e) k = ⊥
-EndFails s G r (if_tail at e a b) k = (A B C : Type') × HasType G e A × CodeHas a s G r B × CodeHas b s G r C × ((A ≢ bool) ⊎ (B ≢ C)) × (k ≡ Mismatch)
+EndFails s G r (if_tail at e a b) k =
+    (A B C : Type') × HasType G e A × CodeHas a s G r B × CodeHas b s G r C × ((A ≢ bool) ⊎ (B ≢ C)) × (k ≡ Mismatch)
 EndFails s G r (case_tail at e a b) k =
     (A B C D : Type') × HasType G e (sum A B) × CodeHas a s (G ++ A ∷ []) r C × CodeHas b s (G ++ B ∷ []) r D × (C ≢ D) × (k ≡ Mismatch)
 
@@ -204,12 +205,16 @@ pub record HasFault (s : Context) (n : Site) (k : TypeKind) : Type 0 where
   pub fails : NodeFails s scope n.node k
   pub least : (l : TypeKind) → NodeFails s scope n.node l → rank k ≤ rank l
 
--- the first node without a type has this fault, at this place
-pub record FirstFault (s : Context) (all : List Site) (k : TypeKind) (at : ℕ) : Type 0 where
-  pub before : List Site
-  pub faulty : Site
-  pub after : List Site
+-- the first element of the list that has no type fails in this way, at this place
+pub record FirstFailure {A : Type 0} (Typed : A → Type 0) (Fails : A → TypeKind → Type 0) (place_of : A → ℕ) (all : List A) (k : TypeKind) (at : ℕ) : Type 0 where
+  pub before : List A
+  pub faulty : A
+  pub after : List A
   pub is : all ≡ before ++ faulty ∷ after
-  pub typed : All (IsTyped s) before
-  pub fault : HasFault s faulty k
-  pub there : at ≡ place faulty.node
+  pub typed : All Typed before
+  pub fails : Fails faulty k
+  pub there : at ≡ place_of faulty
+
+-- the first node without a type has this fault, at this place
+abbrev pub FirstFault : Context → List Site → TypeKind → ℕ → Type 0
+FirstFault s = FirstFailure (IsTyped s) (HasFault s) (λ n. place n.node)

@@ -26,4 +26,5 @@ IsTypeStop p OutOfMemory = Unit {0}
 
 -- the type of the body of a procedure or main, or its fault
 abbrev pub RoutineAnswer : Tree → Routine → Result Shared TypeStop → Type 0
-RoutineAnswer p f result = MatchResult result (λ t. CodeHas f.body (setting_of p f) f.declares.params f.declares.own (read_shared t)) (PartsStop p (routine_parts f))
+RoutineAnswer p f result =
+    MatchResult result (λ t. CodeHas f.body (setting_of p f) f.declares.params f.declares.own (read_shared t)) (PartsStop p (routine_parts f))

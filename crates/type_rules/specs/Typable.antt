@@ -7,7 +7,7 @@ use Rattle.priority_order.specs.Order.{IsLawful, Closes}
 use Rattle.type_rules.specs.declared.TypeKind.{TypeKind}
 use Rattle.type_rules.specs.declared.TypeKind.TheVariants.{Cycle, Mismatch}
 use Rattle.type_rules.specs.Typing.{Context, CodeHas}
-use Rattle.type_rules.specs.Nodes.{parameter, Site, code_sites, IsTyped, HasFault, place}
+use Rattle.type_rules.specs.Nodes.{parameter, Site, code_sites, IsTyped, HasFault, FirstFailure, place}
 
 -- what the typing of a procedure or main stands on
 abbrev pub setting_of : Tree → Routine → Context
@@ -66,14 +66,8 @@ part_place (a_site f n) = place n.node
 part_place (a_routine f) = f.at
 
 -- the first part of the list that fails has this fault, at this place
-pub record FirstPartFault (p : Tree) (all : List Part) (k : TypeKind) (at : ℕ) : Type 0 where
-  pub before : List Part
-  pub faulty : Part
-  pub after : List Part
-  pub is : all ≡ before ++ faulty ∷ after
-  pub typed : All (PartTyped p) before
-  pub fails : PartFails p faulty k
-  pub there : at ≡ part_place faulty
+abbrev pub FirstPartFault : Tree → List Part → TypeKind → ℕ → Type 0
+FirstPartFault p = FirstFailure (PartTyped p) (PartFails p) part_place
 
 -- the type fault of a program: that of its first part without a type
 abbrev pub HasTypeFault : Tree → TypeKind → ℕ → Type 0

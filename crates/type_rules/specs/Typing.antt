@@ -4,7 +4,7 @@ use Rattle.std.specs.List.{All}
 use Rattle.priml_syntax.specs.declared.prio.Prio.{Prio}
 use Rattle.priml_syntax.specs.declared.prio.Prio.TheVariants.{Const, Var}
 use Rattle.priml_syntax.specs.declared.expr.Op.{Op}
-use Rattle.priml_syntax.specs.declared.expr.Op.TheVariants.{Add, Sub, Mul, Div, Rem, Less, AtMost, Equal, And, Or}
+use Rattle.priml_syntax.specs.declared.expr.Op.TheVariants.{Add, Sub, Mul, Div, Rem, And, Or}
 use Rattle.priml_syntax.specs.Tree.{Signature, Type', unit, bool, int, pair, sum, thread, Term, var, number, bool_term, unit_term, pair_term, first, second, left, right, binary, negated, Code, block, Body, bind, ret_tail, if_tail, case_tail, Act, ret, spawn, sync, call, do_block, input, output}
 use Rattle.priml_syntax.specs.Size.{type_nodes}
 use Rattle.priority_order.specs.Order.{Pair}
@@ -16,16 +16,9 @@ VarTypes = List Type'
 
 -- what an operator takes on both sides
 abbrev pub operand : Op → Type'
-operand Add = int
-operand Sub = int
-operand Mul = int
-operand Div = int
-operand Rem = int
-operand Less = int
-operand AtMost = int
-operand Equal = int
 operand And = bool
 operand Or = bool
+operand _ = int
 
 -- what an operator gives
 abbrev pub gives : Op → Type'
@@ -34,11 +27,7 @@ gives Sub = int
 gives Mul = int
 gives Div = int
 gives Rem = int
-gives Less = bool
-gives AtMost = bool
-gives Equal = bool
-gives And = bool
-gives Or = bool
+gives _ = bool
 
 -- an expression has a type in a scope
 abbrev pub HasType : VarTypes → Term → Type' → Type 0

@@ -1,6 +1,7 @@
 use Rattle.std.proofs.Common.{map, sym, ap, ◌∙◌, Some, arith}
 use Rattle.priml_syntax.specs.Read.{read_value, read_outcome}
-use Rattle.core_steps.specs.Results.{read_result, collected}
+use Rattle.core_steps.specs.Results.{read_result}
+use Rattle.core_steps.specs.Inside.Results.{collected}
 use Rattle.core_steps.proofs.Several.{turn_on, turn_off}
 use Rattle.core_steps.proofs.expressions.evaluate_all.Goals as goal
 

@@ -1,7 +1,7 @@
 use Rattle.std.proofs.Common.{◌≡◌, map, take, Some}
 use Rattle.priml_syntax.specs.Read.{read_value, read_term}
 use Rattle.core_steps.specs.Expressions.{results_of}
-use Rattle.core_steps.specs.Results.{collected}
+use Rattle.core_steps.specs.Inside.Results.{collected}
 use Rattle.core_steps.proofs.expressions.evaluate_all.Given as goal
 
 abbrev pub invariant-loop-expr : goal.invariant-loop-expr

@@ -1,5 +1,6 @@
 use Rattle.std.proofs.Common.{◌≡◌, Some, map, refl}
-use Rattle.core_steps.specs.Configs.{StandsAt, SlotNeeds, read_slot, slot_at}
+use Rattle.core_steps.specs.Configs.{read_slot}
+use Rattle.core_steps.specs.Inside.Configs.{StandsAt, SlotNeeds, slot_at}
 use Rattle.core_steps.specs.Locals.{read_awaited}
 use Rattle.core_steps.specs.Moves.{read_job}
 use Rattle.core_steps.proofs.Slots.{slots_rise}

@@ -2,7 +2,7 @@ use Rattle.std.proofs.Common.{◌≡◌, ◌+◌, ◌-◌, ◌<◌, ◌≤◌, l
 use Rattle.std.proofs.lemmas.Bool.{false≢true}
 use Rattle.priml_syntax.specs.declared.event.Event.{Event}
 use Rattle.cost_graph.specs.Records.{parts_in}
-use Rattle.cost_graph.specs.Tables.{first_in}
+use Rattle.cost_graph.specs.Inside.Tables.{first_in}
 use Rattle.cost_graph.proofs.JobEnds.{left_on, left_short, left_all}
 use Rattle.cost_graph.proofs.finished.are_few.Goals as goal
 

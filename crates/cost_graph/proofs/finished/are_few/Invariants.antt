@@ -1,6 +1,6 @@
 use Rattle.std.proofs.Common.{◌≡◌, ◌+◌}
 use Rattle.cost_graph.specs.Records.{parts_in}
-use Rattle.cost_graph.specs.Tables.{first_in}
+use Rattle.cost_graph.specs.Inside.Tables.{first_in}
 use Rattle.cost_graph.proofs.finished.are_few.Given as goal
 
 abbrev pub invariant-loop-one : goal.invariant-loop-one

@@ -1,7 +1,7 @@
 use Rattle.std.proofs.Common.{ℕ, ◌<◌}
 use Rattle.cost_graph.specs.Records.{parts_in}
-use Rattle.cost_graph.specs.Tables.{part_nth}
-use Rattle.cost_graph.specs.Finished.{IsPartFinished}
+use Rattle.cost_graph.specs.Inside.Tables.{part_nth}
+use Rattle.cost_graph.specs.Inside.Finished.{IsPartFinished}
 use Rattle.cost_graph.proofs.finished.are_finished.Given as goal
 
 abbrev pub invariant-loop-one : goal.invariant-loop-one

@@ -1,7 +1,7 @@
 use Rattle.std.proofs.Common.{◌≡◌, ◌≢◌, ◌+◌, ◌∷◌, [], length, sym, ap, ◌∙◌, subst, arith}
 use Rattle.std.proofs.lemmas.Bool.{false≢true, ltb-true, lt-ltb}
 use Rattle.cost_graph.specs.Records.{Part, parts_in}
-use Rattle.cost_graph.specs.Tables.{part_nth}
+use Rattle.cost_graph.specs.Inside.Tables.{part_nth}
 use Rattle.cost_graph.proofs.Parts.{parts_length, nth_of, apart_in}
 use Rattle.cost_graph.proofs.RootsCounted.{HasRootsBefore, other_on, root_on, roots_counted, gap_in}
 use Rattle.cost_graph.proofs.finished.are_roots.Goals as goal

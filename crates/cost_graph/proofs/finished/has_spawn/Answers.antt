@@ -3,7 +3,7 @@ use Rattle.std.proofs.lemmas.Bool.{ltb-true, lt-ltb}
 use Rattle.priml_syntax.specs.declared.record.Record.{Record}
 use Rattle.priml_syntax.specs.Events.{spawns}
 use Rattle.cost_graph.specs.Records.{Part, parts_in}
-use Rattle.cost_graph.specs.Tables.{part_nth}
+use Rattle.cost_graph.specs.Inside.Tables.{part_nth}
 use Rattle.cost_graph.proofs.Parts.{nth_of, one_part}
 use Rattle.cost_graph.proofs.JobEnds.{there_at, record_few}
 use Rattle.cost_graph.proofs.finished.has_spawn.Goals as goal

@@ -4,7 +4,7 @@ use Rattle.priml_syntax.specs.Events.{spawns}
 use Rattle.std.proofs.lemmas.Result.{IfOk-weaker}
 use Rattle.priml_syntax.specs.Read.{read_record}
 use Rattle.cost_graph.specs.Records.{part_of, parts_in}
-use Rattle.cost_graph.specs.Finished.{AreEventsFit, HasSpawner, HasChildren, IsPartFinished}
+use Rattle.cost_graph.specs.Inside.Finished.{AreEventsFit, HasSpawner, HasChildren, IsPartFinished}
 use Rattle.cost_graph.proofs.finished.is_part_finished.Goals as goal
 
 pub returns : goal.returns

@@ -1,6 +1,6 @@
 use Rattle.std.proofs.Common.{refl}
 use Rattle.cost_graph.specs.Records.{parts_in}
-use Rattle.cost_graph.specs.Tables.{part_nth}
+use Rattle.cost_graph.specs.Inside.Tables.{part_nth}
 use Rattle.cost_graph.proofs.JobEnds.{there_at}
 use Rattle.cost_graph.proofs.finished.is_there.Goals as goal
 

@@ -1,7 +1,8 @@
 use Rattle.std.proofs.Common.{arith, ◌≡◌, ℕ, ◌<◌, ◌≤◌, length, get_or, [], List, ◌++◌, ◌∷◌, true, false, set, subst, sym, ap, ◌∙◌}
 use Rattle.std.proofs.lemmas.Grind.{common_steps}
 use Rattle.cost_graph.specs.Graph.{CostGraph, vertex_total, parents_at, children_at}
-use Rattle.cost_graph.specs.Marks.{is_marked, is_free}
+use Rattle.cost_graph.specs.Marks.{is_marked}
+use Rattle.cost_graph.specs.Inside.Marks.{is_free}
 use Rattle.cost_graph.proofs.Visits.{children_below, parents_below, free_at_end, not_free_before, seen_on, freed_yes, freed_no}
 use Rattle.cost_graph.proofs.marks.visit.Goals as goal
 use Rattle.cost_graph.proofs.marks.visit.Goals.{then-front-parents, else-front-parents}

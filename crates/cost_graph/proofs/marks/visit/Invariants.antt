@@ -1,6 +1,7 @@
 use Rattle.std.proofs.Common.{◌≡◌, ◌+◌, ◌≤◌, ◌++◌, take, vec_len, vec_capacity}
 use Rattle.std.specs.List.{filter}
-use Rattle.cost_graph.specs.Marks.{is_free, IsSeen}
+use Rattle.cost_graph.specs.Marks.{IsSeen}
+use Rattle.cost_graph.specs.Inside.Marks.{is_free}
 use Rattle.cost_graph.proofs.marks.visit.Given as goal
 
 abbrev pub invariant-loop-child : goal.invariant-loop-child

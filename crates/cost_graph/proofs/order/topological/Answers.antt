@@ -2,8 +2,9 @@ use Rattle.std.proofs.Common.{◌≡◌, ◌<◌, ◌≤◌, ◌++◌, false, le
 use Rattle.std.proofs.lemmas.Grind.{common_steps}
 use Rattle.std.specs.List.{filter}
 use Rattle.cost_graph.specs.Graph.{children_at}
-use Rattle.cost_graph.specs.Marks.{is_free, IsSeen}
-use Rattle.cost_graph.specs.Marks.{unmarked}
+use Rattle.cost_graph.specs.Marks.{IsSeen}
+use Rattle.cost_graph.specs.Inside.Marks.{is_free}
+use Rattle.cost_graph.specs.Inside.Marks.{unmarked}
 use Rattle.cost_graph.proofs.Sorting.{sorting_from, sorting_on, sorting_falls, before_cycles, sorted_or_stuck, next_in}
 use Rattle.cost_graph.proofs.order.topological.Goals as goal
 

@@ -1,4 +1,4 @@
-use Rattle.cost_graph.specs.Marks.{unmarked}
+use Rattle.cost_graph.specs.Inside.Marks.{unmarked}
 use Rattle.cost_graph.proofs.Sorting.{IsSorting}
 use Rattle.cost_graph.proofs.order.topological.Given as goal
 

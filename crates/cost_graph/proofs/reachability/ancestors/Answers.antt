@@ -1,7 +1,7 @@
 use Rattle.std.proofs.Common.{arith, ◌≡◌, ℕ, ◌<◌, ◌-◌, suc, length, get_or, true, subst, sym, ◌↔◌}
 use Rattle.std.specs.List.{All}
 use Rattle.cost_graph.specs.Graph.{children_at}
-use Rattle.cost_graph.specs.Order.{HasWay}
+use Rattle.cost_graph.specs.Inside.Order.{HasWay}
 use Rattle.cost_graph.proofs.Above.{IsAbove, above_on, above_end, order_below, all_children_below}
 use Rattle.cost_graph.proofs.reachability.ancestors.Goals as goal
 

@@ -1,7 +1,7 @@
 use Rattle.std.proofs.Common.{arith, ◌≡◌, ◌<◌, length, get_or, true, subst, sym, ◌↔◌}
 use Rattle.std.specs.List.{All}
 use Rattle.cost_graph.specs.Graph.{parents_at}
-use Rattle.cost_graph.specs.Order.{HasWay}
+use Rattle.cost_graph.specs.Inside.Order.{HasWay}
 use Rattle.cost_graph.proofs.Visits.{parents_below}
 use Rattle.cost_graph.proofs.Above.{IsBeneath, beneath_on, beneath_end, order_below}
 use Rattle.cost_graph.proofs.reachability.descendants.Goals as goal

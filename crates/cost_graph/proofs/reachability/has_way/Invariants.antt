@@ -1,5 +1,5 @@
 use Rattle.std.proofs.Common.{take}
-use Rattle.cost_graph.specs.Order.{HasWay}
+use Rattle.cost_graph.specs.Inside.Order.{HasWay}
 use Rattle.cost_graph.proofs.reachability.has_way.Given as goal
 
 abbrev pub invariant-loop-vertex : goal.invariant-loop-vertex

@@ -5,7 +5,7 @@ use Rattle.std.specs.declared.alloc.Global.{Global}
 use Rattle.priml_syntax.specs.declared.event.Event.{Event}
 use Rattle.cost_graph.specs.View.{lists}
 use Rattle.cost_graph.specs.Records.{parts_in}
-use Rattle.cost_graph.specs.Tables.{part_nth, first_in, AreRight}
+use Rattle.cost_graph.specs.Inside.Tables.{part_nth, first_in, AreRight}
 use Rattle.cost_graph.proofs.Grown.{lists_length}
 use Rattle.cost_graph.proofs.Parts.{parts_length, first_more}
 use Rattle.cost_graph.proofs.Made.{lists_push, right_more, events_read}

@@ -1,7 +1,7 @@
 use Rattle.std.proofs.Common.{◌≡◌, ◌+◌, ◌-◌, ◌<◌, ◌∷◌, [], List, ℕ, length, take, get_or, sym, ap, subst, arith}
 use Rattle.std.proofs.lemmas.Result.{IfOk-weaker}
 use Rattle.cost_graph.specs.Records.{parts_in}
-use Rattle.cost_graph.specs.Tables.{part_nth, vertex_at, AreParents, HasSpawn, IsKthSpawn, IsNumber}
+use Rattle.cost_graph.specs.Inside.Tables.{part_nth, vertex_at, AreParents, HasSpawn, IsKthSpawn, IsNumber}
 use Rattle.cost_graph.proofs.Parts.{parts_length}
 use Rattle.cost_graph.proofs.Arrows.{root_parents, spawner_there, spawned_parents}
 use Rattle.cost_graph.proofs.Made.{apart_known, path_read}

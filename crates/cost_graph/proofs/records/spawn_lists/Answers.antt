@@ -3,19 +3,15 @@ use Rattle.std.proofs.lemmas.List.{length-append}
 use Rattle.priml_syntax.specs.declared.event.Event.{Event}
 use Rattle.priml_syntax.specs.declared.record.Record.{Record}
 use Rattle.cost_graph.specs.View.{lists}
-use Rattle.cost_graph.specs.Records.{Part, parts_in}
-use Rattle.cost_graph.specs.Tables.{part_nth, AreSpawnPlaces}
-use Rattle.cost_graph.proofs.Parts.{parts_length, nth_of, events_few}
+use Rattle.cost_graph.specs.Records.{parts_in}
+use Rattle.cost_graph.specs.Inside.Tables.{part_nth, AreSpawnPlaces}
+use Rattle.cost_graph.proofs.JobEnds.{record_few}
+use Rattle.cost_graph.proofs.Parts.{parts_length}
 use Rattle.cost_graph.proofs.Made.{lists_push, each_more, events_read}
 use Rattle.cost_graph.proofs.records.spawn_lists.Goals as goal
 
 pub spawn_places-requires : goal.spawn_places-requires
-spawn_places-requires c =
-    let rs = c.args.list.now in
-    let i = c.loop-record.record-index in
-    let at = nth_of rs i c.record-item.result c.loop-record-test.true c.record-item.is in
-    let within : i < length (parts_in rs) = omega (arith, c.loop-record-test.true, parts_length rs) in
-    omega (arith, events_few (parts_in rs) i within, ap (λ (x : Part). length x.events) at, c.requires)
+spawn_places-requires c = record_few c.args.list.now c.loop-record.record-index c.record-item.result c.loop-record-test.true c.record-item.is c.requires
 
 pub loop-record-preserved : goal.loop-record-preserved
 loop-record-preserved c =

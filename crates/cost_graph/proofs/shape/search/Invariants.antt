@@ -1,5 +1,5 @@
 use Rattle.std.proofs.Common.{ℕ, ◌<◌}
-use Rattle.cost_graph.specs.Shape.{IsFit}
+use Rattle.cost_graph.specs.Inside.Shape.{IsFit}
 use Rattle.cost_graph.proofs.shape.search.Given as goal
 
 abbrev pub invariant-loop-vertex : goal.invariant-loop-vertex

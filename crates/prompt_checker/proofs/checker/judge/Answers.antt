@@ -17,7 +17,7 @@ use Rattle.prompt_checker.specs.declared.schedule.Schedule.{Schedule}
 use Rattle.prompt_checker.specs.Read.{steps_of}
 use Rattle.prompt_checker.specs.Schedule.{step_at}
 use Rattle.prompt_checker.specs.Verdict.{IsVerdict}
-use Rattle.prompt_checker.specs.Watch.{AreStood, IsBroken, IsUnfair}
+use Rattle.prompt_checker.specs.Inside.Watch.{AreStood, IsBroken, IsUnfair}
 use Rattle.prompt_checker.proofs.Flaws.{AreLeft}
 use Rattle.prompt_checker.specs.declared.schedule.Verdict.{Verdict}
 use Rattle.prompt_checker.specs.declared.schedule.Verdict.TheVariants.{Prompt, Flaw}
@@ -132,16 +132,15 @@ pub returns-in-Some-unfair : goal.returns-in-Some-unfair
 returns-in-Some-unfair c =
     let g = c.args.graph.now in
     let s = c.args.schedule.now in
-    let pairs = c.args.order.now.pairs in
     let i = c.loop-i.i in
     let lt : i < length s.steps.items = omega (arith, c.loop-i-test.true, c.len-i-end.ensures) in
     let at = line_is s i c.index-line.result.now lt c.index-line.ensures in
     let left : AreLeft g c.loop-i.ready.items c.unfair.new.ready.items c.index-line.result.now.items = record { are = c.unfair.ensures.held } in
-    let h = shows g pairs c.args.cores (steps_of s) (Flaw (record { step = i + 1; kind = c.in-Some-unfair.kind })) c.flaw_at-in-Some-unfair.result c.flaw_at-in-Some-unfair.ensures
-    (unfair_verdict g pairs (length c.args.order.now.names) c.args.cores (steps_of s) i c.loop-i.frontier c.loop-i.stood.items c.loop-i.ready.items c.loop-i.invariant (small_steps s (vertex_total g) c.requires.vertices)
+    let h = shows g c.args.order.now.pairs c.args.cores (steps_of s) (Flaw (record { step = i + 1; kind = c.in-Some-unfair.kind })) c.flaw_at-in-Some-unfair.result c.flaw_at-in-Some-unfair.ensures
+    (unfair_verdict g c.args.order.now.pairs (length c.args.order.now.names) c.args.cores (steps_of s) i c.loop-i.frontier c.loop-i.stood.items c.loop-i.ready.items c.loop-i.invariant (small_steps s (vertex_total g) c.requires.vertices)
     c.in-Some-unfair.kind c.unfair.new.ready.items (in_steps s i lt) (subst (AreLeft g c.loop-i.ready.items c.unfair.new.ready.items) (sym at) left)
     (subst (λ l. IsBroken c.loop-i.frontier.graph c.args.cores c.loop-i.frontier.ran l None) (sym at) c.in_default.ensures.flaw)
-    (subst (λ l. IsUnfair g pairs c.args.cores c.unfair.new.ready.items l (Some c.in-Some-unfair.kind)) (sym at) c.in-Some-unfair.ensures.flaw)) in
+    (subst (λ l. IsUnfair g c.args.order.now.pairs c.args.cores c.unfair.new.ready.items l (Some c.in-Some-unfair.kind)) (sym at) c.in-Some-unfair.ensures.flaw)) in
     record { verdict = h.verdict; only = h.only }
 
 pub add_ready-requires-in-loop-i-clause-vertices : goal.add_ready-requires-in-loop-i-clause-vertices
@@ -174,26 +173,23 @@ pub returns-in-Some-first_missing : goal.returns-in-Some-first_missing
 returns-in-Some-first_missing c =
     let g = c.args.graph.now in
     let s = c.args.schedule.now in
-    let pairs = c.args.order.now.pairs in
     let i = c.loop-i.i in
     let e : i ≡ length s.steps.items = omega (arith, c.loop-i-test.false, c.len-i-end.ensures, c.loop-i.auto.i-end) in
     let end : i ≡ length (steps_of s) = omega (arith, e, lists_length s.steps.items) in
     let whole : i ≡ c.len.result = omega (arith, e, c.len.ensures) in
-    let v = missing_verdict g pairs (length c.args.order.now.names) c.args.cores (steps_of s) i c.loop-i.frontier c.loop-i.stood.items c.loop-i.ready.items c.loop-i.invariant (small_steps s (vertex_total g) c.requires.vertices)
+    let v = missing_verdict g c.args.order.now.pairs (length c.args.order.now.names) c.args.cores (steps_of s) i c.loop-i.frontier c.loop-i.stood.items c.loop-i.ready.items c.loop-i.invariant (small_steps s (vertex_total g) c.requires.vertices)
     c.in-Some-first_missing.vertex end c.in-Some-first_missing.ensures in
-    let h = shows g pairs c.args.cores (steps_of s) (Flaw (record { step = c.len.result + 1; kind = Unfinished c.in-Some-first_missing.vertex })) c.flaw_at-in-Some-first_missing.result c.flaw_at-in-Some-first_missing.ensures
-    (subst (λ n. IsVerdict g (IsVertexBelow g pairs) c.args.cores (steps_of s) (Flaw (record { step = n + 1; kind = Unfinished c.in-Some-first_missing.vertex }))) whole v) in
+    let h = shows g c.args.order.now.pairs c.args.cores (steps_of s) (Flaw (record { step = c.len.result + 1; kind = Unfinished c.in-Some-first_missing.vertex })) c.flaw_at-in-Some-first_missing.result c.flaw_at-in-Some-first_missing.ensures
+    (subst (λ n. IsVerdict g (IsVertexBelow g c.args.order.now.pairs) c.args.cores (steps_of s) (Flaw (record { step = n + 1; kind = Unfinished c.in-Some-first_missing.vertex }))) whole v) in
     record { verdict = h.verdict; only = h.only }
 
 pub returns : goal.returns
 returns c =
     let g = c.args.graph.now in
     let s = c.args.schedule.now in
-    let pairs = c.args.order.now.pairs in
     let i = c.loop-i.i in
-    let e : i ≡ length s.steps.items = omega (arith, c.loop-i-test.false, c.len-i-end.ensures, c.loop-i.auto.i-end) in
-    let end : i ≡ length (steps_of s) = omega (arith, e, lists_length s.steps.items) in
-    let v = prompt_verdict g pairs (length c.args.order.now.names) c.args.cores (steps_of s) i c.loop-i.frontier c.loop-i.stood.items c.loop-i.ready.items c.loop-i.invariant (small_steps s (vertex_total g) c.requires.vertices)
+    let end : i ≡ length (steps_of s) = omega (arith, c.loop-i-test.false, c.len-i-end.ensures, c.loop-i.auto.i-end, lists_length s.steps.items) in
+    let v = prompt_verdict g c.args.order.now.pairs (length c.args.order.now.names) c.args.cores (steps_of s) i c.loop-i.frontier c.loop-i.stood.items c.loop-i.ready.items c.loop-i.invariant (small_steps s (vertex_total g) c.requires.vertices)
     end c.in-None.ensures in
-    let h = shows g pairs c.args.cores (steps_of s) Prompt Prompt refl v in
+    let h = shows g c.args.order.now.pairs c.args.cores (steps_of s) Prompt Prompt refl v in
     record { verdict = h.verdict; only = h.only }

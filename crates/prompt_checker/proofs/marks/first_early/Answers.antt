@@ -2,7 +2,7 @@ use Rattle.std.proofs.Common.{◌≡◌, ℕ, ◌<◌, List, length, get_or, inl
 use Rattle.std.proofs.lemmas.Bool.{both_ways, cases_lt}
 use Rattle.cost_graph.specs.Graph.{parents_at}
 use Rattle.cost_graph.proofs.Members.{parents_seen}
-use Rattle.prompt_checker.specs.Watch.{IsEarly}
+use Rattle.prompt_checker.specs.Inside.Watch.{IsEarly}
 use Rattle.prompt_checker.proofs.marks.first_early.Goals as goal
 
 pub returns-then-not-parents_have_run : goal.returns-then-not-parents_have_run

@@ -1,5 +1,5 @@
 use Rattle.std.proofs.Common.{ℕ, ◌<◌, get_or}
-use Rattle.prompt_checker.specs.Watch.{IsEarly}
+use Rattle.prompt_checker.specs.Inside.Watch.{IsEarly}
 use Rattle.prompt_checker.proofs.marks.first_early.Given as goal
 
 abbrev pub invariant-loop-vertex : goal.invariant-loop-vertex

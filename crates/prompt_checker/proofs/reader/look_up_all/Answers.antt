@@ -3,7 +3,7 @@ use Rattle.std.proofs.lemmas.Iterator.Consumers.{YieldsList-turn, YieldsList-end
 use Rattle.std.proofs.lemmas.Iterator.Splits.{YieldsList-from_slice_split}
 use Rattle.priml_io.specs.Lines.{is_blank}
 use Rattle.inputs_text.specs.InputLines.{is_some_text}
-use Rattle.prompt_checker.specs.Looks.{IsLook}
+use Rattle.prompt_checker.specs.Inside.Looks.{IsLook}
 use Rattle.inputs_text.proofs.Pairs.{pairs-step}
 use Rattle.prompt_checker.proofs.reader.look_up_all.Goals as goal
 

@@ -1,6 +1,6 @@
 use Rattle.std.proofs.Common.{map}
 use Rattle.inputs_text.specs.PathText.{Pairwise}
-use Rattle.prompt_checker.specs.Looks.{IsLook}
+use Rattle.prompt_checker.specs.Inside.Looks.{IsLook}
 use Rattle.prompt_checker.proofs.reader.look_up_all.Given as goal
 
 abbrev pub invariant-loop-word : goal.invariant-loop-word

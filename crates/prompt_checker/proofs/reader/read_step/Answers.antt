@@ -1,7 +1,7 @@
 use Rattle.std.proofs.Common.{refl, subst}
 use Rattle.inputs_text.specs.PathText.{Pairwise}
 use Rattle.inputs_text.specs.InputLines.{words_of}
-use Rattle.prompt_checker.specs.Looks.{IsLook}
+use Rattle.prompt_checker.specs.Inside.Looks.{IsLook}
 use Rattle.prompt_checker.proofs.ReadLines.{unknown-line, found-step}
 use Rattle.prompt_checker.proofs.reader.read_step.Goals as goal
 

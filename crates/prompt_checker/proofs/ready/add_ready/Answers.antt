@@ -7,7 +7,7 @@ use Rattle.std.proofs.lemmas.Grind.{common_steps}
 use Rattle.std.proofs.lemmas.List.{length-set}
 use Rattle.cost_graph.specs.Graph.{vertex_priority}
 use Rattle.cost_graph.proofs.Ends.{owned_below}
-use Rattle.prompt_checker.specs.Watch.{holds}
+use Rattle.prompt_checker.specs.Inside.Watch.{holds}
 use Rattle.prompt_checker.proofs.Held.{in_start, in_more}
 use Rattle.prompt_checker.proofs.ready.add_ready.Goals as goal
 

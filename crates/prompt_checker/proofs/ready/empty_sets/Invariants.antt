@@ -1,5 +1,5 @@
 use Rattle.std.proofs.Common.{◌≡◌, ℕ, length, false}
-use Rattle.prompt_checker.specs.Watch.{holds}
+use Rattle.prompt_checker.specs.Inside.Watch.{holds}
 use Rattle.prompt_checker.proofs.ready.empty_sets.Given as goal
 
 abbrev pub invariant-loop : goal.invariant-loop

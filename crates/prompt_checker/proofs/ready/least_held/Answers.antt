@@ -1,5 +1,5 @@
 use Rattle.std.proofs.Common.{◌+◌, ◌≤◌, length, sym, subst, arith}
-use Rattle.prompt_checker.specs.Watch.{IsLeastOf}
+use Rattle.prompt_checker.specs.Inside.Watch.{IsLeastOf}
 use Rattle.prompt_checker.proofs.Least.{HeldBefore, none_before, one_more, all_held}
 use Rattle.prompt_checker.proofs.ready.least_held.Goals as goal
 

@@ -1,4 +1,4 @@
-use Rattle.prompt_checker.specs.Watch.{IsLeastOf}
+use Rattle.prompt_checker.specs.Inside.Watch.{IsLeastOf}
 use Rattle.prompt_checker.proofs.Least.{HeldBefore}
 use Rattle.prompt_checker.proofs.ready.least_held.Given as goal
 

@@ -1,6 +1,6 @@
 use Rattle.std.proofs.Common.{◌≡◌, ℕ, ◌<◌, List, length, get_or, Some, ap, ◌∙◌, subst, arith, below_more}
 use Rattle.cost_graph.specs.Graph.{vertex_priority}
-use Rattle.prompt_checker.specs.Watch.{IsHeld}
+use Rattle.prompt_checker.specs.Inside.Watch.{IsHeld}
 use Rattle.prompt_checker.proofs.Held.{overtaken_made}
 use Rattle.prompt_checker.proofs.ready.overtaken.Goals as goal
 

@@ -1,6 +1,6 @@
 use Rattle.std.proofs.Common.{ℕ, ◌<◌, get_or, Some}
 use Rattle.cost_graph.specs.Graph.{vertex_priority}
-use Rattle.prompt_checker.specs.Watch.{IsHeld}
+use Rattle.prompt_checker.specs.Inside.Watch.{IsHeld}
 use Rattle.prompt_checker.proofs.ready.overtaken.Given as goal
 
 abbrev pub invariant-loop-vertex : goal.invariant-loop-vertex

@@ -1,5 +1,5 @@
 use Rattle.std.proofs.Common.{take}
-use Rattle.response_report.specs.Places.{IsRelease}
+use Rattle.response_report.specs.Inside.Places.{IsRelease}
 use Rattle.response_report.proofs.place.release.Given as goal
 
 abbrev pub invariant-loop-vertex : goal.invariant-loop-vertex

@@ -1,6 +1,6 @@
 use Rattle.std.proofs.Common.{ℕ, ◌-◌, ◌++◌, [], ◌∷◌, List, length, ◌∙◌, ap}
 use Rattle.core_steps.specs.Moves.{read_job}
-use Rattle.serial_meaning.specs.Serial.{roots_below}
+use Rattle.serial_meaning.specs.Inside.Serial.{roots_below}
 use Rattle.serial_meaning.proofs.Stack.{one_root}
 use Rattle.serial_meaning.proofs.serial.roots.Goals as goal
 

@@ -1,7 +1,7 @@
 use Rattle.std.proofs.Common.{◌-◌, ◌≤◌}
 use Rattle.core_steps.specs.Configs.{IsConfig, slots_of}
 use Rattle.core_steps.specs.Moves.{read_job}
-use Rattle.serial_meaning.specs.Serial.{Serial}
+use Rattle.serial_meaning.specs.Inside.Serial.{Serial}
 use Rattle.serial_meaning.proofs.serial.run.Given as goal
 
 abbrev pub invariant-steps : goal.invariant-steps

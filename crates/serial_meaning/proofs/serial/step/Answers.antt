@@ -1,7 +1,7 @@
 use Rattle.std.proofs.Common.{◌≡◌, ◌++◌, ◌+◌, ℕ}
 use Rattle.core_steps.specs.Configs.{slots_of}
 use Rattle.core_steps.specs.Moves.{read_job}
-use Rattle.serial_meaning.specs.Serial.{Serial, left_of}
+use Rattle.serial_meaning.specs.Inside.Serial.{Serial, left_of}
 use Rattle.serial_meaning.proofs.Stack.{goes_on, may_spawn, serial_on, on_ok}
 use Rattle.serial_meaning.proofs.serial.step.Goals as goal
 

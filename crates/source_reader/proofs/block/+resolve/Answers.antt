@@ -35,14 +35,13 @@ block_of-returns-in_err-action-clause-gives t c =
     let b = c.args.raw.now in
     let xs = c.deref-bind-items.result.now in
     let d = c.bind-item.result in
-    let i = c.loop-bind.bind-index in
     let env = env_in c.args.names.now in
     let now = c.loop-bind.scope.items in
     let room = room_faults d.name.at (length now) 32 Scope in
     let act = act_faults (read_action d.action) env now in
-    let more = body_faults (raw_body_of (drop (i + 1) xs) (raw_tail_of b)) env (now ++ d.name.id ∷ []) in
+    let more = body_faults (raw_body_of (drop (c.loop-bind.bind-index + 1) xs) (raw_tail_of b)) env (now ++ d.name.id ∷ []) in
     let all = body_faults (raw_body_of xs (raw_tail_of b)) env c.args.scope.now.items in
-    let step : all ≡ room ++ (act ++ more) = c.loop-bind.invariant.faults ∙ ap (λ x. body_faults x env now) (next_item xs i d (raw_tail_of b) c.loop-bind-test.true c.bind-item.is) in
+    let step : all ≡ room ++ (act ++ more) = c.loop-bind.invariant.faults ∙ ap (λ x. body_faults x env now) (next_item xs c.loop-bind.bind-index d (raw_tail_of b) c.loop-bind-test.true c.bind-item.is) in
     let e = c.in_err-action.field-0.0 in
     handed_on (code_faults (read_block b) env c.args.scope.now.items) (code_meant (read_block b) (env_in c.args.names.now) c.args.scope.now.items) read_code e _ c.from_residual-in_err-action.ensures.1
     (code_first b xs env c.args.scope.now.items e c.deref-bind-items.ensures.value (gives_first all (room ++ act) more e (regrouped all room act more step) c.in_err-action.ensures.gives))

@@ -1,7 +1,8 @@
 use Rattle.std.proofs.Common.{rules, ◌≡◌, map, sym, ◌∙◌, ap, subst}
 use Rattle.std.specs.Prelude.{Ok, Err, IfErr}
 use Rattle.core_steps.specs.declared.config.CoreStop.TheVariants.{OutOfMemory}
-use Rattle.core_steps.specs.Configs.{IsNeedIn, StandsAt, Stops, read_slot, slot_at, slots_of}
+use Rattle.core_steps.specs.Configs.{Stops, read_slot, slots_of}
+use Rattle.core_steps.specs.Inside.Configs.{IsNeedIn, StandsAt, slot_at}
 use Rattle.core_steps.specs.Moves.{read_job}
 use Rattle.core_steps.proofs.Choices.{no_thread}
 use Rattle.core_steps.proofs.config.Config.advance.Goals as goal

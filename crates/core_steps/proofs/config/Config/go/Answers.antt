@@ -1,5 +1,6 @@
 use Rattle.std.proofs.Common.{◌<◌, ◌∙◌, length, map, sym, subst}
-use Rattle.core_steps.specs.Configs.{AreSlots, Advances, SlotNeeds, StandsAt, read_slot, slots_of}
+use Rattle.core_steps.specs.Configs.{AreSlots, Advances, read_slot, slots_of}
+use Rattle.core_steps.specs.Inside.Configs.{SlotNeeds, StandsAt}
 use Rattle.core_steps.specs.Locals.{read_awaited}
 use Rattle.core_steps.specs.Moves.{read_job}
 use Rattle.core_steps.proofs.Slots.{kept_slots}

@@ -1,6 +1,7 @@
 use Rattle.std.proofs.Common.{rules, ◌≡◌, map, sym, ◌∙◌, ap, subst}
 use Rattle.std.specs.Prelude.{Err}
-use Rattle.core_steps.specs.Configs.{IsEnded, IsNeedIn, SlotsRise, outcome_of, read_slot, slot_at, slots_of}
+use Rattle.core_steps.specs.Configs.{SlotsRise, read_slot, slots_of}
+use Rattle.core_steps.specs.Inside.Configs.{IsEnded, IsNeedIn, outcome_of, slot_at}
 use Rattle.core_steps.specs.Moves.{read_job}
 use Rattle.core_steps.proofs.Advanced.{found_there}
 use Rattle.core_steps.proofs.Choices.{handed_ended, handed_free, handed_awaits, handed_stops}

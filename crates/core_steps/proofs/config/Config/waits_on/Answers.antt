@@ -1,6 +1,7 @@
 use Rattle.std.proofs.Common.{map, sym, ◌∙◌, ap, subst}
 use Rattle.std.specs.Option.{is_some}
-use Rattle.core_steps.specs.Configs.{SlotsRise, outcome_of, read_slot, slot_at, slots_of}
+use Rattle.core_steps.specs.Configs.{SlotsRise, read_slot, slots_of}
+use Rattle.core_steps.specs.Inside.Configs.{outcome_of, slot_at}
 use Rattle.core_steps.specs.Moves.{read_job}
 use Rattle.core_steps.proofs.Choices.{wait_none, wait_free, wait_ended, wait_given, wait_on}
 use Rattle.core_steps.proofs.config.Config.waits_on.Goals as goal

@@ -2,8 +2,10 @@ use Rattle.std.proofs.Common.{None, [], ◌∷◌, ◌++◌, map, ap, sym, ◌�
 use Rattle.std.specs.Option.{option_map}
 use Rattle.priml_syntax.specs.Read.{read_term, read_value}
 use Rattle.core_steps.specs.Expressions.{results_of}
-use Rattle.core_steps.specs.Fields.{read_boxed, read_local}
-use Rattle.core_steps.specs.Moves.{read_job, past}
+use Rattle.core_steps.specs.Fields.{read_local}
+use Rattle.core_steps.specs.Inside.Locals.{read_boxed}
+use Rattle.core_steps.specs.Moves.{read_job}
+use Rattle.core_steps.specs.Inside.Moves.{past}
 use Rattle.core_steps.specs.Steps.{prio_of}
 use Rattle.core_steps.proofs.StepRows.{made, call_row, called_made}
 use Rattle.core_steps.proofs.local.Local.call.Goals as goal

@@ -1,8 +1,10 @@
 use Rattle.std.proofs.Common.{None, [], ◌∷◌, ◌++◌, ap, ◌∙◌}
 use Rattle.std.specs.Option.{option_map}
 use Rattle.priml_syntax.specs.Read.{read_code}
-use Rattle.core_steps.specs.Fields.{read_boxed, read_local}
-use Rattle.core_steps.specs.Moves.{read_job, past}
+use Rattle.core_steps.specs.Fields.{read_local}
+use Rattle.core_steps.specs.Inside.Locals.{read_boxed}
+use Rattle.core_steps.specs.Moves.{read_job}
+use Rattle.core_steps.specs.Inside.Moves.{past}
 use Rattle.core_steps.proofs.StepRows.{made, block_row}
 use Rattle.core_steps.proofs.local.Local.enter_block.Goals as goal
 

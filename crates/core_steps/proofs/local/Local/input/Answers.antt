@@ -3,8 +3,10 @@ use Rattle.std.specs.Option.{option_map}
 use Rattle.priml_syntax.specs.declared.value.Value.TheVariants.{Int}
 use Rattle.priml_syntax.specs.Read.{read_value}
 use Rattle.priml_syntax.specs.Values.{left_value, right_value}
-use Rattle.core_steps.specs.Fields.{read_boxed, LocalFields, read_local}
-use Rattle.core_steps.specs.Moves.{read_job, bound_in}
+use Rattle.core_steps.specs.Fields.{LocalFields, read_local}
+use Rattle.core_steps.specs.Inside.Locals.{read_boxed}
+use Rattle.core_steps.specs.Moves.{read_job}
+use Rattle.core_steps.specs.Inside.Moves.{bound_in}
 use Rattle.core_steps.proofs.StepRows.{made, input_row, input_ended}
 use Rattle.core_steps.proofs.local.Local.input.Goals as goal
 

@@ -1,9 +1,11 @@
 use Rattle.std.proofs.Common.{◌≡◌, Some, None, ap, sym, subst, ◌∙◌}
 use Rattle.std.specs.Option.{option_map}
 use Rattle.priml_syntax.specs.Read.{read_outcome, read_value}
-use Rattle.core_steps.specs.Fields.{read_boxed, read_local}
+use Rattle.core_steps.specs.Fields.{read_local}
+use Rattle.core_steps.specs.Inside.Locals.{read_boxed}
 use Rattle.priml_syntax.specs.Values.{returned}
-use Rattle.core_steps.specs.Moves.{CanStep, Goes, read_job, bound_in}
+use Rattle.core_steps.specs.Moves.{Goes, read_job}
+use Rattle.core_steps.specs.Inside.Moves.{CanStep, bound_in}
 use Rattle.core_steps.proofs.StepRows.{made, join_row}
 use Rattle.core_steps.proofs.local.Local.join_thread.Goals as goal
 

@@ -2,7 +2,8 @@ use Rattle.std.proofs.Common.{rules, ◌≡◌, None, ap, sym, ◌∙◌}
 use Rattle.std.specs.Option.{option_map}
 use Rattle.priml_syntax.specs.declared.event.Event.TheVariants.{Wrote}
 use Rattle.priml_syntax.specs.Read.{read_term, read_value}
-use Rattle.core_steps.specs.Fields.{read_boxed, read_local}
+use Rattle.core_steps.specs.Fields.{read_local}
+use Rattle.core_steps.specs.Inside.Locals.{read_boxed}
 use Rattle.core_steps.specs.Moves.{read_job}
 use Rattle.core_steps.proofs.StepRows.{made, output_row, output_stuck}
 use Rattle.core_steps.proofs.local.Local.output.Goals as goal

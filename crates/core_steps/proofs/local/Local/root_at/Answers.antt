@@ -22,15 +22,4 @@ returns-clause-root c =
     root_is (read_job c.args.job.now) c.args.k l c.requires c.root_priority.ensures is
 
 pub returns-clause-state : goal.returns-clause-state
-returns-clause-state c =
-    let l : LocalFields = record {
-      path = c.in_ok-path.path;
-      prio = c.root_priority.result;
-      reads = 0;
-      children = 0;
-      steps = 0;
-      mode = fresh;
-      top = record { root = Main c.args.k; turns = c.new.result.items; done = 0; scope = map read_value c.new-2.result.items; prios = c.new-3.result.items };
-      below = map read_frame c.new-4.result.items;
-    } in
-    root_local (read_job c.args.job.now) c.args.k l c.requires c.in_ok-path.ensures refl (returns-clause-root c)
+returns-clause-state c = root_local (read_job c.args.job.now) c.args.k _ c.requires c.in_ok-path.ensures refl (returns-clause-root c)

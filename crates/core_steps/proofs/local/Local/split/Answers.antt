@@ -1,7 +1,8 @@
 use Rattle.std.proofs.Common.{None, ap}
 use Rattle.std.specs.Option.{option_map}
 use Rattle.priml_syntax.specs.Read.{read_code, read_term, read_value}
-use Rattle.core_steps.specs.Fields.{read_boxed, read_local}
+use Rattle.core_steps.specs.Fields.{read_local}
+use Rattle.core_steps.specs.Inside.Locals.{read_boxed}
 use Rattle.core_steps.specs.Moves.{read_job}
 use Rattle.core_steps.proofs.EndRows.{left_row, right_row}
 use Rattle.core_steps.proofs.StepRows.{made}

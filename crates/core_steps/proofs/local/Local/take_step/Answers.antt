@@ -1,6 +1,7 @@
 use Rattle.std.proofs.Common.{◌+◌, ap}
 use Rattle.std.specs.Option.{option_map}
-use Rattle.core_steps.specs.Fields.{read_boxed, read_local}
+use Rattle.core_steps.specs.Fields.{read_local}
+use Rattle.core_steps.specs.Inside.Locals.{read_boxed}
 use Rattle.core_steps.specs.Locals.{read_awaited}
 use Rattle.core_steps.specs.Moves.{read_job}
 use Rattle.core_steps.proofs.StepLaws.{can_step, goes_counted, steps_on, steps_to}

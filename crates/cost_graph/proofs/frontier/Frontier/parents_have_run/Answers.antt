@@ -2,7 +2,8 @@ use Rattle.std.proofs.Common.{◌≡◌, ◌↔◌, ℕ, List, Bool, ap, sym, �
 use Rattle.std.specs.Prelude.{IsTrue}
 use Rattle.std.specs.List.{list_all, Contains}
 use Rattle.cost_graph.specs.Graph.{Edge}
-use Rattle.cost_graph.specs.Marks.{is_marked, is_free}
+use Rattle.cost_graph.specs.Marks.{is_marked}
+use Rattle.cost_graph.specs.Inside.Marks.{is_free}
 use Rattle.cost_graph.specs.Frontier.{Progress}
 use Rattle.cost_graph.proofs.Visits.{parents_below}
 use Rattle.cost_graph.proofs.ReadyNext.{free_parent, free_from}

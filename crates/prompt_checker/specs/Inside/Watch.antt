@@ -72,7 +72,8 @@ IsBroken g cores ran line None = (0 < length line) × (length line ≤ cores) ×
 IsBroken g cores ran line (Some EmptyStep) = length line ≡ 0
 IsBroken g cores ran line (Some TooWide) = (0 < length line) × (cores < length line)
 IsBroken g cores ran line (Some (Twice v)) = (0 < length line) × (length line ≤ cores) × IsFound line (StandsAgain ran line) (Some v)
-IsBroken g cores ran line (Some (NotReady v)) = (0 < length line) × (length line ≤ cores) × IsFound line (StandsAgain ran line) None × IsFound line (IsEarly g ran) (Some v)
+IsBroken g cores ran line (Some (NotReady v)) =
+    (0 < length line) × (length line ≤ cores) × IsFound line (StandsAgain ran line) None × IsFound line (IsEarly g ran) (Some v)
 IsBroken g cores ran line (Some (IdleCore u)) = ⊥
 IsBroken g cores ran line (Some (Inverted v u)) = ⊥
 IsBroken g cores ran line (Some (Unfinished u)) = ⊥

@@ -1,0 +1,4 @@
+pub mod Results
+pub mod Locals
+pub mod Moves
+pub mod Configs

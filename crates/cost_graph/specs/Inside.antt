@@ -1,0 +1,5 @@
+pub mod Tables
+pub mod Finished
+pub mod Marks
+pub mod Order
+pub mod Shape

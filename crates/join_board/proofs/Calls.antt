@@ -1,5 +1,5 @@
 -- What the calls rest on.
-use Rattle.std.proofs.Common.{◌≡◌, ℕ, zero, suc, ◌+◌, ◌-◌, ◌^◌, ◌<◌, ◌≤◌, List, [], ◌∷◌, ◌++◌, length, get_or, set, sym, refl, ap, ◌∙◌, subst, inl, inr, arith, Option, Some, None, append-nil, append_assoc, length-append, is_some, Result, Ok, Err, IfOk, cond, Bool, true, false, true≢false}
+use Rattle.std.proofs.Common.{◌≡◌, ℕ, zero, suc, ◌+◌, ◌-◌, ◌^◌, ◌<◌, ◌≤◌, List, [], ◌∷◌, ◌++◌, length, get_or, set, sym, refl, ap, ◌∙◌, subst, inl, inr, arith, Option, Some, None, append-nil, append_assoc, length-append, is_some, cond, Bool, true, false, true≢false}
 use mathlib.Core.Option.{some, some-injective, some-ne-none}
 use lib.ListN.{get_elem?}
 use Rattle.atomic_table.proofs.Lists.{at_longer, at_map, at_last}
@@ -9,9 +9,10 @@ use Rattle.join_board.specs.declared.view.Sight.{Sight}
 use Rattle.trace_book.specs.Segments.{SegmentFields}
 use Rattle.task_state.specs.declared.task.Task.{Task}
 use Rattle.join_board.specs.Logs.{Each, handed_out, size, spawned, finished, sight, sights, keys, shard_of, log_in, Missing, CanWait, IsAt, new_keys, appended, parked_on, fresh}
-use Rattle.join_board.specs.Views.{took_view, gave_view, back_view, ahead_view, behind_view, settled_view, quiet_view, HasSeenEnd, HasSeenSpawn}
-use Rattle.join_board.specs.Plays.{Taken, Grew, Grew_by}
-use Rattle.join_board.specs.Finds.{Appended, Parked}
+use Rattle.join_board.specs.Views.{HasSeenEnd, HasSeenSpawn}
+use Rattle.join_board.specs.Inside.Views.{took_view, gave_view, back_view, ahead_view, behind_view, settled_view, quiet_view}
+use Rattle.join_board.specs.Inside.Plays.{Taken, Grew, Grew_by}
+use Rattle.join_board.specs.Inside.Finds.{Appended, Parked}
 use Rattle.join_board.specs.Calls.{CanCommit, NotListed}
 use Rattle.join_board.specs.Clauses.{EndedIn, NotEndedIn}
 use Rattle.join_board.proofs.Laws.{all_joins}
@@ -23,8 +24,8 @@ use Rattle.priml_syntax.specs.declared.value.Outcome.{Outcome}
 use Rattle.priml_syntax.specs.Events.{spawns, ends}
 use Rattle.priml_syntax.specs.Read.{read_outcome}
 use Rattle.std.specs.Option.{option_map}
-use Rattle.core_steps.specs.Determined.{EndsWith}
-use Rattle.core_steps.specs.Steps.{Job}
+use Rattle.core_steps.specs.Determined.{EndsWith, Trace}
+use Rattle.core_steps.specs.Steps.{Job, State}
 use Rattle.task_state.specs.Tasks.{OnlyLast, goes_on, key_of, read_task}
 use Rattle.priml_syntax.specs.Values.{Outcome'}
 use Rattle.std.proofs.lemmas.Option.{none-some, same_Some}
@@ -49,10 +50,6 @@ gave_back v = let x = v.hand.copy in λ i. record v {
   live = record v.live { ahead = sub_none v.live.ahead (spawned x) i; behind = add_none v.live.behind (finished x) i };
   keys = record { parked = (ap (λ ks. v.keys.parked ++ ks) (new_same x) ∙ append-nil v.keys.parked) i; handed = (ap (λ ks. v.keys.handed ++ ks) (new_same x) ∙ append-nil v.keys.handed) i };
 }
-
-pub if_ok : {A B : Type 0} (r : Result A B) (P Q : A → Type 0) → ((x : A) → P x → Q x) → IfOk r P → IfOk r Q
-if_ok (Ok x) P Q f h = f x h
-if_ok (Err e) P Q f h = tt
 
 pub last_of : (es : List Event) (n : ℕ) (e : Event) → length es ≡ n + 1 → e ≡ get_or es n e → is_spawn e ≡ spawned_last es
 last_of [] n e l h = absurd (omega (arith, l))
@@ -223,6 +220,20 @@ some_outcome (Some x) w e = (x, refl, same_Some (read_outcome x) w e)
 pub no_outcome : (o : Option Outcome) → option_map read_outcome o ≡ None → o ≡ None
 no_outcome None e = refl
 no_outcome (Some x) e = absurd (none-some (read_outcome x) (sym e))
+
+-- a thread that makes a step has not ended
+pub can_grow : (v : View) (k : ℕ) (x : List Entry) (i : ℕ) (s : SegmentFields) (e : Entry) → Taken v k x → get_elem? x i ≡ some e → e.log.path ≡ s.path → length e.log.events ≡ s.from → CanCommit v s → e.log.outcome ≡ None
+can_grow v k x i s e taken at path from can = go e.log.outcome refl
+  where
+    t : State
+    t = can.0.state
+
+    trace : Trace (the_job v.about) e.log.path (length e.log.events) s.events t
+    trace = subst (λ (z : List ℕ × ℕ). Trace (the_job v.about) z.0 z.1 s.events t) (λ j. (sym path j, sym from j)) can.0.trace
+
+    go : (o : Option Outcome) → e.log.outcome ≡ o → e.log.outcome ≡ None
+    go None h = h
+    go (Some o) h = let told = taken.told i e at in let none = ap length (told.2 (told.1 o h).0 s.events t trace) in let some_step = can.0.some in absurd (omega (arith, none, some_step))
 
 -- an entry with an outcome has ended, and the outcome is the thread's
 pub told_end : (v : View) (k : ℕ) (x : List Entry) (p : List ℕ) (i : ℕ) (w : Outcome') (e : Entry) → Taken v k x → get_elem? x i ≡ some e → e.log.path ≡ p → option_map read_outcome e.log.outcome ≡ Some w

@@ -9,7 +9,7 @@ use Rattle.join_board.specs.declared.view.About.{About}
 use Rattle.join_board.specs.declared.view.View.{View}
 use Rattle.join_board.specs.declared.view.Stop.{Stop}
 use Rattle.join_board.specs.Logs.{total, Each, size, spawned, finished}
-use Rattle.join_board.specs.Views.{gave_view, left, right, both, spent_view, ahead_view, added_view, subtracted_view, over_view, counted_view}
+use Rattle.join_board.specs.Inside.Views.{gave_view, left, right, both, spent_view, added_view, subtracted_view, over_view, counted_view}
 use Rattle.join_board.specs.Rule.{SeatTrue, KeepsSeats, LiveTrue, KeepsLive, asks, CallsTrue, StopTrue, StopCause, KeepsSpent}
 use Rattle.join_board.proofs.Sums.{total_set, total_same, total_at, total_le, total_mul, total_split, total_join, each_set, each_split, each_join}
 use Rattle.join_board.proofs.Frames.{each_one}
@@ -18,7 +18,7 @@ use Rattle.join_board.proofs.Frames.{each_one}
 pub seats_gave : (key : About) (work work' : ℕ) (views : List View) (id : ℕ) (v : View) (x : List Entry) → KeepsSeats key work views → get_elem? views id ≡ some v → work' ≡ work + (size x - size v.hand.copy)
     → v.own + (size x - size v.hand.copy) ≤ v.seats * 2 ^ 59 → KeepsSeats key work' (set views id (gave_view v x))
 seats_gave key work work' views id v x r at grew room = let w : View = gave_view v x in record {
-  each = each_one (SeatTrue key) views id v w at (λ h. (h.0, room)) r.each;
+  each = each_one (SeatTrue key) views id v w at (λ h. (h.0, room, h.2)) r.each;
   own = let a = total_set (λ (u : View). u.own) views id v w at in let o = r.own in omega (arith, a, o, grew);
   seats = total_same (λ u. u.seats) views id v w at refl ∙ r.seats;
   few = r.few;
@@ -26,7 +26,7 @@ seats_gave key work work' views id v x r at grew room = let w : View = gave_view
 
 pub seats_split : (key : About) (work : ℕ) (views : List View) (id : ℕ) (v : View) → KeepsSeats key work views → get_elem? views id ≡ some v → v.own ≡ 0 → 1 < v.seats → KeepsSeats key work (set views id (left v) ++ right v ∷ [])
 seats_split key work views id v r at bare more = let mine = r.each id v at in record {
-  each = each_split (SeatTrue key) views id (left v) (right v) ((λ _. mine.0 (omega (arith, more))), omega (arith, bare)) ((λ _. mine.0 (omega (arith, more))), omega arith) r.each;
+  each = each_split (SeatTrue key) views id (left v) (right v) ((λ _. mine.0 (omega (arith, more))), omega (arith, bare), λ z. absurd (omega (arith, z, more))) ((λ _. mine.0 (omega (arith, more))), omega arith, λ z. absurd (omega (arith, z))) r.each;
   own = let a = total_split (λ (u : View). u.own) views id v (left v) (right v) at in let o = r.own in omega (arith, a, o);
   seats = let a = total_split (λ (u : View). u.seats) views id v (left v) (right v) at in let o = r.seats in omega (arith, a, o, more);
   few = r.few;
@@ -35,8 +35,8 @@ seats_split key work views id v r at bare more = let mine = r.each id v at in re
 pub seats_join : (key : About) (work : ℕ) (views : List View) (id other : ℕ) (v w : View) → KeepsSeats key work views → get_elem? views id ≡ some v → get_elem? views other ≡ some w → get_elem? (set views id (both v w)) other ≡ some w → 0 < v.seats
     → KeepsSeats key work (set (set views id (both v w)) other spent_view)
 seats_join key work views id other v w r at was there share = let mine = r.each id v at in let its = r.each other w was in record {
-  each = each_join (SeatTrue key) views id other (both v w) spent_view ((λ _. mine.0 share), (let a : (v.seats + w.seats) * 2 ^ 59 ≡ v.seats * 2 ^ 59 + w.seats * 2 ^ 59 = add-mul v.seats w.seats (2 ^ 59) in omega (arith, a, mine.1, its.1)))
-      ((λ z. absurd (omega (arith, z))), omega arith) r.each;
+  each = each_join (SeatTrue key) views id other (both v w) spent_view ((λ _. mine.0 share), (let a : (v.seats + w.seats) * 2 ^ 59 ≡ v.seats * 2 ^ 59 + w.seats * 2 ^ 59 = add-mul v.seats w.seats (2 ^ 59) in omega (arith, a, mine.1, its.1)), λ z. absurd (omega (arith, z, share)))
+      ((λ z. absurd (omega (arith, z))), omega arith, λ _. refl) r.each;
   own = total_join (λ (u : View). u.own) views id other v w (both v w) spent_view at there (omega arith) ∙ r.own;
   seats = total_join (λ (u : View). u.seats) views id other v w (both v w) spent_view at there (omega arith) ∙ r.seats;
   few = r.few;
@@ -70,16 +70,6 @@ live_subtracted alive live live' views id v r at down late = let w : View = subt
   count = let a = total_same (λ (u : View). u.live.ahead) views id v w at refl in let b = total_set (λ (u : View). u.live.behind) views id v w at in let c = r.count in omega (arith, a, b, c, down, late);
   each = each_one (LiveTrue alive) views id v w at (λ h. ((let o = h.0 in omega (arith, o)), h.1)) r.each;
 }
-
-pub live_dropped : (alive live live' : ℕ) (views : List View) (id : ℕ) (v : View) → KeepsLive alive live views → get_elem? views id ≡ some v → live' + 1 ≡ live → v.live.ahead ≡ 1
-    → KeepsLive alive live' (set views id (ahead_view v 0))
-live_dropped alive live live' views id v r at down early = let w : View = ahead_view v 0 in record {
-  count = let a = total_set (λ (u : View). u.live.ahead) views id v w at in let b = total_same (λ (u : View). u.live.behind) views id v w at refl in let c = r.count in omega (arith, a, b, c, down, early);
-  each = each_one (LiveTrue alive) views id v w at (λ h. ((let o = h.0 in omega (arith, o)), h.1)) r.each;
-}
-
-pub live_ahead : (alive live : ℕ) (views : List View) (id : ℕ) (v : View) → KeepsLive alive live views → get_elem? views id ≡ some v → v.live.ahead ≤ live
-live_ahead alive live views id v r at = let a = total_at (λ (u : View). u.live.ahead) views id v at in let c = r.count in omega (arith, a, c)
 
 -- a view that is behind makes the count at least 1
 pub live_some : (alive live : ℕ) (views : List View) (id : ℕ) (v : View) → KeepsLive alive live views → get_elem? views id ≡ some v → v.live.behind ≤ live

@@ -1,5 +1,5 @@
 -- Once a seat stands for all seats, every shard is at home.
-use Rattle.std.proofs.Common.{◌≡◌, ℕ, ◌+◌, ◌<◌, List, [], ◌∷◌, length, get_or, sym, ap, ◌∙◌, subst, arith, Option, Some, Bool, false, ◌++◌, set, length-set, get_or-set_same, get_or-set_other}
+use Rattle.std.proofs.Common.{◌≡◌, ℕ, ◌+◌, ◌<◌, List, [], ◌∷◌, length, get_or, sym, ap, ◌∙◌, subst, arith, Option, Some, Bool, false, ◌++◌, refl, set, length-set, get_or-set_same, get_or-set_other}
 use mathlib.Core.Logic.{dite}
 use mathlib.Core.Option.{some, some-injective}
 use native.Mathlib.Decide.{ℕ_discrete, dec_lt}
@@ -12,10 +12,11 @@ use Rattle.join_board.specs.Jobs.{the_job}
 use Rattle.join_board.specs.declared.view.About.{About}
 use Rattle.join_board.specs.declared.view.View.{View}
 use Rattle.join_board.specs.Logs.{total, shard_at, HasRoots}
-use Rattle.join_board.specs.Rule.{has, KeepsLogs, Keeps}
+use Rattle.join_board.specs.Inside.Views.{spent_view}
+use Rattle.join_board.specs.Rule.{has, KeepsLogs, Keeps, asks}
 use Rattle.core_steps.specs.Config.{Thread}
 use Rattle.join_board.specs.Close.{Contains}
-use Rattle.join_board.proofs.Sums.{total_two, total_at, total_zero}
+use Rattle.join_board.proofs.Sums.{total_two, total_at, total_zero, total_set, each_set}
 use Rattle.join_board.proofs.Hands.{has_not}
 
 module _ (key : About) where
@@ -26,8 +27,14 @@ module _ (key : About) where
       (λ other. let two = total_two (λ (y : View). y.seats) s.views j id u v other e at in let t = r.seats.seats in omega (arith, two, t, share, all))))
       (λ n. has_not u k n))
 
+  -- and no other view has asked for memory's stop
+  only_asks : (s : State (Option (List Entry)) View) (r : Keeps key s) (id : ℕ) (v : View) → get_elem? s.views id ≡ some v → v.seats ≡ key.opened → total asks s.views ≡ asks v
+  only_asks s r id v at all = let gone = total_zero asks (set s.views id spent_view) (each_set (λ _ u. asks u ≡ 0) s.views id spent_view refl
+      (λ j u other e. (r.seats.each j u e).2 (let two = total_two (λ (y : View). y.seats) s.views j id u v other e at in let t = r.seats.seats in omega (arith, two, t, all)))) in
+      let sum = total_set asks s.views id v spent_view at in omega (arith, sum, gone)
+
   pub closing : (id : ℕ) (v : View) (ws : List ℕ) (xs : List (Option (List Entry))) → v.hand.hand ≡ 0 → v.seats ≡ key.opened → Final (Seen (Keeps key) id v) ws xs
-      → (shards : List (List Entry)) × ((c : List Thread) × KeepsLogs key shards c × Contains key c shards v × HasRoots (the_job key) shards) × ((k : ℕ) → k < 64 → get_elem? xs k ≡ some (Some (shard_at shards k)))
+      → (shards : List (List Entry)) × ((c : List Thread) × KeepsLogs key shards c × Contains key c shards v × HasRoots (the_job key) shards) × ((k : ℕ) → k < 64 → get_elem? xs k ≡ some (Some (shard_at shards k))) × (0 < v.stop.found_memory → 0 < v.stop.asked_memory)
   closing id v ws xs idle all f = let s = f.0 in let r = f.1.0 in let at = f.1.1 in let work = r.logs.work in (
     r.shards,
     (
@@ -41,7 +48,8 @@ module _ (key : About) where
       ),
       r.seen.rooted,
     ),
-    λ k l. f.4 k (Some (shard_at r.shards k)) (r.hands.home k l (sym (r.hands.hands k l) ∙ no_hand s r id v at idle all k)),
+    (λ k l. f.4 k (Some (shard_at r.shards k)) (r.hands.home k l (sym (r.hands.hands k l) ∙ no_hand s r id v at idle all k))),
+    λ z. let found = (r.spent.each id v at).3 z in let asked = only_asks s r id v at all in omega (arith, found, asked),
   )
 
 pub filled_next : (fs : List Bool) (i k : ℕ) → ((j : ℕ) → j < i → get_or fs j false ≡ false) → k < i + 1 → get_or (set fs i false) k false ≡ false

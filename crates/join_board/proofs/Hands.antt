@@ -9,7 +9,7 @@ use Rattle.atomic_table.proofs.Lists.{set_here, set_else}
 use Rattle.join_board.specs.Entries.{Entry}
 use Rattle.join_board.specs.declared.view.View.{View}
 use Rattle.join_board.specs.Logs.{total, shard_at}
-use Rattle.join_board.specs.Views.{took_view, missed_view, gave_view, left, right, both, spent_view}
+use Rattle.join_board.specs.Inside.Views.{took_view, missed_view, gave_view, left, right, both, spent_view}
 use Rattle.join_board.specs.Rule.{word_of, has, HandTrue, KeepsHands}
 use Rattle.join_board.proofs.Sums.{total_set, total_same, total_two, total_split, total_join, each_set, each_split, each_join}
 use Rattle.join_board.proofs.Frames.{each_one}

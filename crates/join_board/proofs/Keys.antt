@@ -13,7 +13,7 @@ use Rattle.task_state.specs.Tasks.{TaskKey}
 use Rattle.join_board.specs.declared.view.About.{About}
 use Rattle.join_board.specs.declared.view.View.{View}
 use Rattle.join_board.specs.Logs.{total, Each, shard_at, weigh, keys, new_keys, kept, handed_out, CanWait}
-use Rattle.join_board.specs.Views.{gave_view, left, right, both, spent_view}
+use Rattle.join_board.specs.Inside.Views.{gave_view, left, right, both, spent_view}
 use Rattle.join_board.specs.Rule.{Waits, KeepsParked}
 use Rattle.join_board.proofs.Sums.{total_set, total_append, total_split, total_join, at_get}
 

@@ -25,7 +25,7 @@ use Rattle.task_state.specs.declared.task.Task.{Task}
 use Rattle.task_state.specs.Tasks.{TaskKey}
 use Rattle.join_board.specs.Entries.{Entry}
 use Rattle.join_board.specs.Jobs.{the_job}
-use Rattle.join_board.specs.Openings.{FirstShards, IsRooted}
+use Rattle.join_board.specs.Inside.Openings.{FirstShards, IsRooted}
 use Rattle.join_board.specs.declared.view.About.{About}
 use Rattle.join_board.specs.declared.view.View.{View}
 use Rattle.join_board.specs.Logs.{total, Each, HasEntry, log_in, shard_at, shard_of, size, fresh, weigh, keys, Missing}
@@ -147,7 +147,7 @@ module _ (key : About) where
       shards = shards;
       config = begin (the_job key);
       logs = f.logs;
-      seats = record { each = one_view (SeatTrue key) v ((λ _. refl), omega arith); own = (let s = starts.no_steps in omega (arith, s)); seats = omega arith; few = few };
+      seats = record { each = one_view (SeatTrue key) v ((λ _. refl), omega arith, λ _. refl); own = (let s = starts.no_steps in omega (arith, s)); seats = omega arith; few = few };
       hands = record {
         wide = length-set (replicate m 0) 0 n ∙ (len_replicate {A = ℕ} m 0 ∙ wide);
         low = λ k l. let w = word_zero (word_of k) (omega arith) in omega (arith, w);

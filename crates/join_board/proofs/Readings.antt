@@ -1,18 +1,17 @@
 -- The logs of a closed board beside the threads of the configuration that it reads as.
-use Rattle.std.proofs.Common.{◌≡◌, ℕ, zero, suc, ◌+◌, ◌<◌, ◌≤◌, List, [], ◌∷◌, ◌++◌, length, map, Bool, true, false, true≢false, cond, Option, Some, None, ◌⊎◌, inl, inr, ⊎_elim, sym, refl, ap, ◌∙◌, subst, arith}
+use Rattle.std.proofs.Common.{◌≡◌, ℕ, zero, suc, ◌<◌, List, [], ◌∷◌, map, Bool, true, false, true≢false, cond, Some, ⊎_elim, sym, refl, ap, ◌∙◌, subst, arith}
 use mathlib.Core.Logic.{dite}
 use mathlib.Core.Option.{some, some-injective, some-ne-none}
 use native.Mathlib.Decide.{dec_lt}
 use lib.ListN.{get_elem?}
 use Rattle.std.specs.List.{AllByRecursion, Contains}
-use Rattle.std.specs.Option.{option_map}
 use Rattle.std.proofs.lemmas.List.{get_or_past}
 use Rattle.std.proofs.lemmas.List.Elements.{All-contains, All-from_recursion, Contains-append_left, Contains-append_right}
 use Rattle.std.proofs.lemmas.Option.{same_Some, none-some}
 use Rattle.priml_syntax.specs.Paths.{same_path}
 use Rattle.priml_syntax.proofs.Orders.{same_path_is}
 use Rattle.core_steps.specs.Config.{Thread, thread_by_path, IsFinished}
-use Rattle.core_steps.specs.Determined.{events_in, events_of}
+use Rattle.core_steps.specs.Determined.{events_in}
 use Rattle.core_steps.specs.Steps.{outcome_in}
 use Rattle.priml_syntax.specs.Values.{Outcome'}
 use Rattle.core_steps.proofs.CoreLaws.{core_laws}

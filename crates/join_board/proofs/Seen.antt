@@ -14,7 +14,8 @@ use Rattle.join_board.specs.declared.view.Sight.{Sight}
 use Rattle.join_board.specs.declared.view.About.{About}
 use Rattle.join_board.specs.declared.view.View.{View}
 use Rattle.join_board.specs.Logs.{Each, HasEntry, log_in, log_of, shard_at, shard_of, sight, sights, Shows}
-use Rattle.join_board.specs.Views.{gave_view, left, right, both, spent_view, HasSeenEnd}
+use Rattle.join_board.specs.Views.{HasSeenEnd}
+use Rattle.join_board.specs.Inside.Views.{gave_view, left, right, both, spent_view}
 use Rattle.join_board.specs.Rule.{Placed, SeenTrue, KeepsSeen}
 use Rattle.join_board.proofs.Laws.{all_joins}
 use Rattle.join_board.proofs.Paths.{same_path_eq, either_path}

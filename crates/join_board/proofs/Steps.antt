@@ -21,15 +21,16 @@ use Rattle.join_board.specs.declared.view.View.{View}
 use Rattle.join_board.specs.declared.view.Hand.{Hand}
 use Rattle.join_board.specs.declared.view.Live.{Live}
 use Rattle.join_board.specs.declared.view.Keys.{Keys}
+use Rattle.join_board.specs.declared.view.Stop.{Stop}
 use Rattle.join_board.specs.Logs.{Each, log_in, shard_at, size, spawned, finished, Shows, appended, fresh, parked_on, IsListed, Missing, CanWait}
-use Rattle.join_board.specs.Views.{left, right, both, spent_view, took_view, missed_view, gave_view, ahead_view, added_view, subtracted_view, alive_view, over_view, counted_view, asked_limit_view, asked_memory_view, unset_view, found_limit_view, found_memory_view}
+use Rattle.join_board.specs.Inside.Views.{left, right, both, spent_view, took_view, missed_view, gave_view, added_view, subtracted_view, alive_view, over_view, counted_view, asked_limit_view, asked_memory_view, unset_view, found_limit_view, found_memory_view}
 use Rattle.join_board.specs.Rule.{word_of, KeepsLive, KeepsSpent, Keeps}
-use Rattle.join_board.specs.Plays.{Told, Taken, took, gave, Grew, Grew_by, Enrolled_by, Parked_by, added, subtracted, dropped, looked, counted, asked_limit, asked_memory, found_stop}
+use Rattle.join_board.specs.Inside.Plays.{Told, Taken, took, gave, Grew, Grew_by, Enrolled_by, Parked_by, added, subtracted, looked, counted, asked_limit, asked_memory, found_stop}
 use Rattle.join_board.proofs.Sums.{total_at, total_le, total_add, total_same, total_set, total_append, was_at}
 use Rattle.join_board.proofs.Frames.{seats_frame, hands_frame, seen_frame, live_frame, spent_frame, parked_frame}
 use Rattle.join_board.proofs.Hands.{hands_took, hands_missed, hands_gave, hands_split, hands_join}
 use Rattle.join_board.proofs.Seen.{both_seen, shows_mine, seen_gave, seen_split, seen_join, joined, log_at}
-use Rattle.join_board.proofs.Counts.{seats_gave, seats_split, seats_join, few_steps, live_gave, live_added, live_subtracted, live_dropped, live_ahead, live_some, live_over, live_split, live_join, spent_gave, spent_counted}
+use Rattle.join_board.proofs.Counts.{seats_gave, seats_split, seats_join, few_steps, live_gave, live_added, live_subtracted, live_some, live_over, live_split, live_join, spent_gave, spent_counted}
 use Rattle.join_board.proofs.Stops.{spent_asked_limit, spent_asked_memory, stop_low, spent_unset, spent_found_limit, spent_found_memory, spent_split, spent_join}
 use Rattle.join_board.proofs.Keys.{Moved, parked_gave, parked_split, parked_join}
 use Rattle.join_board.proofs.Logs.{Turned, turned_same, turned_segment, turned_parked, turned_enrolled, spawns_append, ends_append}
@@ -110,7 +111,8 @@ module _ (key : About) where
     told = subst (λ (a : About). Each (Told (the_job a)) (shard_at r.shards k)) about (λ i e g. let own = l.placed k lt i e g in let its = l.entries k lt i e g in
         let log : events_of r.config e.log.path ≡ e.log.events = l.reads e.log.path ∙ (ap (λ (j : ℕ). log_in (shard_at r.shards j) e.log.path) own.0 ∙ log_at (shard_at r.shards k) i e g own.2) in (
           (λ q. sym (ap ended log) ∙ law.no_outcome (the_job key) r.config e.log.path l.reached (sym its.1 ∙ ap (option_map read_outcome) q)),
-          λ o q. let z = sym its.1 ∙ ap (option_map read_outcome) q in (sym (ap ended log) ∙ law.has_outcome (the_job key) r.config e.log.path (read_outcome o) l.reached own.1 z, law.agrees (the_job key) r.config e.log.path (read_outcome o) l.reached own.1 z),
+          (λ o q. let z = sym its.1 ∙ ap (option_map read_outcome) q in (sym (ap ended log) ∙ law.has_outcome (the_job key) r.config e.log.path (read_outcome o) l.reached own.1 z, law.agrees (the_job key) r.config e.log.path (read_outcome o) l.reached own.1 z)),
+          λ d es t tr. law.stuck (the_job key) r.config e.log.path (length e.log.events) es t l.reached (ap length (sym log)) tr (ap ended log ∙ d),
         ));
     apart = λ i j e f g h q. (l.placed k lt i e g).2 j f h q;
     waits = subst (λ (a : About). Each (λ (e : Entry). Each (CanWait (the_job a) e.log.path) e.waiting) (shard_at r.shards k)) about (λ i e g j t h. (r.parked.waits k lt i e g j t h).0);
@@ -187,7 +189,7 @@ module _ (key : About) where
     shards = r.shards;
     config = r.config;
     logs = r.logs;
-    seats = seats_frame key (steps_of r.config) s.views id v w at r.seats (λ h. ((λ z. about ∙ h.0 (omega (arith, z, seats))), subst (λ (q : ℕ × ℕ). q.0 ≤ q.1 * 2 ^ 59) (λ i. (sym own i, sym seats i)) h.1)) own seats;
+    seats = seats_frame key (steps_of r.config) s.views id v w at r.seats (λ h. ((λ z. about ∙ h.0 (omega (arith, z, seats))), subst (λ (q : ℕ × ℕ). q.0 ≤ q.1 * 2 ^ 59) (λ i. (sym own i, sym seats i)) h.1, λ z. ap (λ (t : Stop). t.asked_memory) stop ∙ h.2 (sym seats ∙ z))) own seats;
     hands = hands_frame r.shards s.words s.homes s.views id 0 n v w at r.hands (λ k l e. omega (arith, e)) (λ h k e. let o = h k (ap (λ (z : Hand). z.hand) (sym hand) ∙ e) in (o.0, ap (λ (z : Hand). z.copy) hand ∙ o.1, (let z = o.2 in omega (arith, z, seats)))) (ap (λ (z : Hand). z.hand) hand);
     seen = seen_frame key r.shards s.views id v w at r.seen (subst (λ (z : List Sight). Each (Shows r.shards) z) (sym seen));
     live = subst (λ (z : ℕ). KeepsLive (unended r.config) z (set s.views id w)) (sym (get_or-set_same s.words 0 n 0 (let l = r.hands.wide in omega (arith, l)))) live;
@@ -204,24 +206,19 @@ module _ (key : About) where
       let down : (n + (2 ^ 64 - 1)) % 2 ^ 64 + 1 ≡ n = omega (arith, l, late, fits) in
       (subtracted_view v, keeps, tt, on_live s r id _ v (subtracted_view v) at refl refl refl refl refl refl refl refl (live_subtracted (unended r.config) _ _ s.views id v r.live at down late), refl)
 
-  pub drops_live : (slots id : ℕ) (m : Sat) → m.0.live.ahead ≡ 1 → Allows (Keeps key) slots id m 0 (λ n. (n + (2 ^ 64 - 1)) % 2 ^ 64) (dropped (step slots 0 1 0 none) m)
-  drops_live slots id m early s r deep at fits = let v = m.0 in let n = get_or s.words 0 0 in let l = live_ahead (unended r.config) n s.views id v r.live at in
-      let down : (n + (2 ^ 64 - 1)) % 2 ^ 64 + 1 ≡ n = omega (arith, l, early, fits) in
-      (ahead_view v 0, keeps, tt, on_live s r id _ v (ahead_view v 0) at refl refl refl refl refl refl refl refl (live_dropped (unended r.config) _ _ s.views id v r.live at down early), refl)
-
   pub loads_live : (slots id : ℕ) (m : Sat) → Allows (Keeps key) slots id m 0 (λ n. n) (looked (step slots 0 0 0 none) m)
   loads_live slots id m s r deep at fits = let v = m.0 in let n = get_or s.words 0 0 in dite (ℕ_discrete n 0)
       (λ z. (over_view v, keeps, tt, on_live s r id n v (over_view v) at refl refl refl refl refl refl refl refl (live_over (unended r.config) n n s.views id v r.live at refl z), ((λ _. refl), λ h. absurd (h z))))
       (λ h. (alive_view v, keeps, tt, on_live s r id n v (alive_view v) at refl refl refl refl refl refl refl refl (live_frame (unended r.config) n n s.views id v (alive_view v) at r.live refl (λ o. o) refl refl), ((λ z. absurd (h z)), λ _. refl)))
 
   -- the total and the stop
-  on_stop : (s : St) (r : Keeps key s) (id i n : ℕ) (v w : View) → get_elem? s.views id ≡ some v → 1024 < i → w.about ≡ v.about → w.seats ≡ v.seats → w.own ≡ v.own → w.hand ≡ v.hand → w.seen ≡ v.seen → w.keys ≡ v.keys → w.live ≡ v.live
+  on_stop : (s : St) (r : Keeps key s) (id i n : ℕ) (v w : View) → get_elem? s.views id ≡ some v → 1024 < i → (w.seats ≡ 0 → w.stop.asked_memory ≡ v.stop.asked_memory) → w.about ≡ v.about → w.seats ≡ v.seats → w.own ≡ v.own → w.hand ≡ v.hand → w.seen ≡ v.seen → w.keys ≡ v.keys → w.live ≡ v.live
       → KeepsSpent key (steps_of r.config) (get_or (set s.words i n) 1040 0) (get_or (set s.words i n) 1056 0) (set s.views id w) → Keeps key (stepped s i n id [] w keeps)
-  on_stop s r id i n v w at far about seats own hand seen keys live spent = record {
+  on_stop s r id i n v w at far asked about seats own hand seen keys live spent = record {
     shards = r.shards;
     config = r.config;
     logs = r.logs;
-    seats = seats_frame key (steps_of r.config) s.views id v w at r.seats (λ h. ((λ z. about ∙ h.0 (omega (arith, z, seats))), subst (λ (q : ℕ × ℕ). q.0 ≤ q.1 * 2 ^ 59) (λ j. (sym own j, sym seats j)) h.1)) own seats;
+    seats = seats_frame key (steps_of r.config) s.views id v w at r.seats (λ h. ((λ z. about ∙ h.0 (omega (arith, z, seats))), subst (λ (q : ℕ × ℕ). q.0 ≤ q.1 * 2 ^ 59) (λ j. (sym own j, sym seats j)) h.1, λ z. asked z ∙ h.2 (sym seats ∙ z))) own seats;
     hands = hands_frame r.shards s.words s.homes s.views id i n v w at r.hands (λ k l e. omega (arith, e, l, far)) (λ h k e. let o = h k (ap (λ (z : Hand). z.hand) (sym hand) ∙ e) in (o.0, ap (λ (z : Hand). z.copy) hand ∙ o.1, (let z = o.2 in omega (arith, z, seats)))) (ap (λ (z : Hand). z.hand) hand);
     seen = seen_frame key r.shards s.views id v w at r.seen (subst (λ (z : List Sight). Each (Shows r.shards) z) (sym seen));
     live = live_frame (unended r.config) _ _ s.views id v w at r.live (get_or-set_other s.words i 0 n 0 (λ e. omega (arith, e, far))) (λ h. subst (λ (q : ℕ × Live). (q.1.ahead + q.1.behind ≤ q.0) × (0 < q.1.over → unended r.config ≡ 0)) (λ j. (sym seats j, sym live j)) h)
@@ -236,7 +233,7 @@ module _ (key : About) where
         counted_view v n,
         keeps,
         tt,
-        on_stop s r id 1040 _ v (counted_view v n) at (omega arith) refl refl refl refl refl refl refl
+        on_stop s r id 1040 _ v (counted_view v n) at (omega arith) (λ _. refl) refl refl refl refl refl refl refl
             (spent_counted key (steps_of r.config) n (get_or s.words 1056 0) _ _ s.views id v r.spent at (get_or-set_same s.words 1040 ((n + k) % 2 ^ 64) 0 (let l = r.hands.wide in omega (arith, l)) ∙ small) (get_or-set_other s.words 1040 1056 ((n + k) % 2 ^ 64) 0 (λ e. omega (arith, e)))),
         (refl, (r.spent.each id v at).0, omega (arith, few, mine, sum)),
       )
@@ -256,17 +253,17 @@ module _ (key : About) where
     asked_limit_view v,
     keeps,
     tt,
-    on_stop s r id 1056 n' v (asked_limit_view v) at (omega arith) refl refl refl refl refl refl refl (on_word s r id n' (asked_limit_view v)
+    on_stop s r id 1056 n' v (asked_limit_view v) at (omega arith) (λ _. refl) refl refl refl refl refl refl refl (on_word s r id n' (asked_limit_view v)
         (spent_asked_limit key (steps_of r.config) _ n n' s.views id v r.spent at (either_first 1 n) (either_later 1 n) (omega (arith, limit, most, over)))),
     refl,
   )
 
-  pub asks_memory : (slots id : ℕ) (m : Sat) → Allows (Keeps key) slots id m 1056 (λ n. either (n == 0) 2 n) (asked_memory (step slots 1056 0 2 none) m)
-  asks_memory slots id m s r deep at fits = let v = m.0 in let n = get_or s.words 1056 0 in let n' = either (n == 0) 2 n in (
+  pub asks_memory : (slots id : ℕ) (m : Sat) → 0 < m.0.seats → Allows (Keeps key) slots id m 1056 (λ n. either (n == 0) 2 n) (asked_memory (step slots 1056 0 2 none) m)
+  asks_memory slots id m share s r deep at fits = let v = m.0 in let n = get_or s.words 1056 0 in let n' = either (n == 0) 2 n in (
     asked_memory_view v,
     keeps,
     tt,
-    on_stop s r id 1056 n' v (asked_memory_view v) at (omega arith) refl refl refl refl refl refl refl (on_word s r id n' (asked_memory_view v)
+    on_stop s r id 1056 n' v (asked_memory_view v) at (omega arith) (λ z. absurd (omega (arith, z, share))) refl refl refl refl refl refl refl (on_word s r id n' (asked_memory_view v)
         (spent_asked_memory key (steps_of r.config) _ n n' s.views id v r.spent at (either_first 2 n) (either_later 2 n))),
     refl,
   )
@@ -277,7 +274,7 @@ module _ (key : About) where
         unset_view v,
         keeps,
         tt,
-        on_stop s r id 1056 n v (unset_view v) at (omega arith) refl refl refl refl refl refl refl (on_word s r id n (unset_view v) (spent_unset key (steps_of r.config) _ n s.views id v r.spent at)),
+        on_stop s r id 1056 n v (unset_view v) at (omega arith) (λ _. refl) refl refl refl refl refl refl refl (on_word s r id n (unset_view v) (spent_unset key (steps_of r.config) _ n s.views id v r.spent at)),
         (low, (λ _. refl), (λ e. absurd (omega (arith, e, z))), λ e. absurd (omega (arith, e, z))),
       ))
       (λ some_stop. dite (ℕ_discrete n 1)
@@ -285,14 +282,14 @@ module _ (key : About) where
         found_limit_view v,
         keeps,
         tt,
-        on_stop s r id 1056 n v (found_limit_view v) at (omega arith) refl refl refl refl refl refl refl (on_word s r id n (found_limit_view v) (spent_found_limit key (steps_of r.config) _ n s.views id v r.spent at o)),
+        on_stop s r id 1056 n v (found_limit_view v) at (omega arith) (λ _. refl) refl refl refl refl refl refl refl (on_word s r id n (found_limit_view v) (spent_found_limit key (steps_of r.config) _ n s.views id v r.spent at o)),
         (low, (λ e. absurd (some_stop e)), (λ _. refl), λ e. absurd (omega (arith, e, o))),
       ))
       (λ other. (
         found_memory_view v,
         keeps,
         tt,
-        on_stop s r id 1056 n v (found_memory_view v) at (omega arith) refl refl refl refl refl refl refl (on_word s r id n (found_memory_view v) (spent_found_memory key (steps_of r.config) _ n s.views id v r.spent at (omega (arith, low, some_stop, other)))),
+        on_stop s r id 1056 n v (found_memory_view v) at (omega arith) (λ _. refl) refl refl refl refl refl refl refl (on_word s r id n (found_memory_view v) (spent_found_memory key (steps_of r.config) _ n s.views id v r.spent at (omega (arith, low, some_stop, other)))),
         (low, (λ e. absurd (some_stop e)), (λ e. absurd (other e)), λ _. refl),
       )))
 

@@ -7,7 +7,7 @@ use lib.ListN.{get_elem?}
 use Rattle.join_board.specs.declared.view.About.{About}
 use Rattle.join_board.specs.declared.view.View.{View}
 use Rattle.join_board.specs.Logs.{total, Each}
-use Rattle.join_board.specs.Views.{left, right, both, spent_view, asked_limit_view, asked_memory_view, unset_view, found_limit_view, found_memory_view}
+use Rattle.join_board.specs.Inside.Views.{left, right, both, spent_view, asked_limit_view, asked_memory_view, unset_view, found_limit_view, found_memory_view}
 use Rattle.join_board.specs.Rule.{calls, asks, StopTrue, StopCause, KeepsSpent}
 use Rattle.join_board.proofs.Sums.{total_set, total_same, total_split, total_join, each_set, each_split, each_join}
 

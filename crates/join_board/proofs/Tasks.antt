@@ -1,5 +1,5 @@
 -- Tasks whose steps a seat can publish.
-use Rattle.std.proofs.Common.{◌≡◌, ℕ, ◌+◌, ◌<◌, ◌≤◌, ◌^◌, List, [], length, Bool, false, Option, Some, None, refl, sym, ap, ◌∙◌, subst, arith, true≢false}
+use Rattle.std.proofs.Common.{◌≡◌, ℕ, ◌<◌, ◌≤◌, ◌^◌, List, [], length, Bool, false, Option, Some, None, refl, sym, ap, ◌∙◌, subst, arith, true≢false}
 use Rattle.std.specs.Prelude.{IfSome, IsSome}
 use Rattle.std.proofs.lemmas.Option.{same_Some, none-some}
 use Rattle.priml_syntax.specs.Events.{AllJoins}
@@ -14,9 +14,8 @@ use Rattle.task_state.specs.Turns.{Halts, Turn, WasFed}
 use Rattle.task_state.proofs.States.{determined, not_over, opens, state_children, state_prio}
 use Rattle.join_board.specs.Calls.{HasSeen}
 use Rattle.join_board.specs.Jobs.{the_job}
-use Rattle.join_board.specs.Logs.{CanWait}
 use Rattle.join_board.specs.Tasks.{CanRun, HasChild, IsChild, IsIdle, LastSteps}
-use Rattle.join_board.specs.Threads.{PrioOf, Spawns}
+use Rattle.join_board.specs.Threads.{Spawns}
 use Rattle.join_board.specs.Views.{HasSeenEnd, HasSeenSpawn}
 use Rattle.join_board.specs.declared.view.View.{View}
 use Rattle.join_board.proofs.Laws.{all_joins}

@@ -1,9 +1,7 @@
 -- What a closed board has.
-use Rattle.std.specs.Prelude.{◌≡◌, ℕ, ◌<◌, ◌≤◌, List, map}
+use Rattle.std.specs.Prelude.{◌≡◌, ◌<◌, ◌≤◌, List, map}
 use Rattle.std.specs.List.{flat_map}
 use Rattle.trace_book.specs.Log.{Log}
-use mathlib.Core.Option.{some}
-use lib.ListN.{get_elem?}
 use Rattle.core_steps.specs.Config.{Thread, IsFinished}
 use Rattle.core_steps.specs.Determined.{unended}
 use Rattle.task_state.specs.Books.{ReadAs}
@@ -12,7 +10,6 @@ use Rattle.join_board.specs.Jobs.{the_job}
 use Rattle.join_board.specs.Logs.{total, Each, size, HasRoots, Shows}
 use Rattle.join_board.specs.Rule.{KeepsLogs}
 use Rattle.join_board.specs.Handles.{knows}
-use Rattle.join_board.specs.declared.view.Sight.{Sight}
 use Rattle.join_board.specs.declared.owned.BoardSeat.{BoardSeat}
 use Rattle.join_board.specs.declared.view.About.{About}
 use Rattle.join_board.specs.declared.view.View.{View}
@@ -25,14 +22,11 @@ Contains key c shards v = (v.own ≤ total size shards) × Each (Shows shards) v
 abbrev pub logs_in : List (List Entry) → List Log
 logs_in = flat_map (λ (x : List Entry). map (λ (e : Entry). e.log) x)
 
+-- where a seat has found Memory, one of the seats has asked for it
+abbrev pub IsAskedFor : List BoardSeat → Type 0
+IsAskedFor seats = Each (λ (s : BoardSeat). 0 < (knows s).stop.found_memory → 0 < total (λ (r : BoardSeat). (knows r).stop.asked_memory) seats) seats
+
 -- the logs are those of shards that read as a reached configuration, in which each root has an entry, and these have all that each seat has seen; where every
 -- thread has ended the logs are those of the threads of a finished configuration
 abbrev pub Closes : About → List BoardSeat → List Log → Type 0
-Closes key seats logs = (shards : List (List Entry)) × (logs ≡ logs_in shards) × ((c : List Thread) × KeepsLogs key shards c × Each (λ (s : BoardSeat). Contains key c shards (knows s)) seats × HasRoots (the_job key) shards × (unended c ≡ 0 → IsFinished c × ReadAs logs c))
-
--- the second knows all that the first does
-abbrev pub Absorbed : View → View → Type 0
-Absorbed v w = (v.own ≤ w.own) × (v.live.over ≤ w.live.over) × (v.stop.found_limit ≤ w.stop.found_limit) × ((i : ℕ) (t : Sight) → get_elem? v.seen i ≡ some t → (j : ℕ) × (get_elem? w.seen j ≡ some t))
-
-abbrev pub ClosesOne : About → View → List Log → Type 0
-ClosesOne key v logs = (shards : List (List Entry)) × (logs ≡ logs_in shards) × ((c : List Thread) × KeepsLogs key shards c × Contains key c shards v × HasRoots (the_job key) shards)
+Closes key seats logs = (shards : List (List Entry)) × (logs ≡ logs_in shards) × ((c : List Thread) × KeepsLogs key shards c × Each (λ (s : BoardSeat). Contains key c shards (knows s)) seats × HasRoots (the_job key) shards × (unended c ≡ 0 → IsFinished c × ReadAs logs c)) × IsAskedFor seats

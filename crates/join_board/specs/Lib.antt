@@ -4,12 +4,10 @@ pub mod Jobs
 pub mod Logs
 pub mod Views
 pub mod Rule
-pub mod Plays
-pub mod Finds
 pub mod Rests
 pub mod Handles
 pub mod Calls
 pub mod Clauses
 pub mod Close
-pub mod Openings
 pub mod Tasks
+pub mod Inside

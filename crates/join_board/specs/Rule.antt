@@ -49,9 +49,9 @@ pub record KeepsLogs (key : About) (shards : List (List Entry)) (c : List Thread
   pub few : unended c ≤ length (the_job key).program.mains + steps_of c
   pub roots : length (the_job key).program.mains < 2 ^ 32
 
--- rule 5
+-- rule 5; a view that stands for no seat has asked for nothing
 abbrev pub SeatTrue : About → View → Type 0
-SeatTrue key v = (0 < v.seats → v.about ≡ key) × (v.own ≤ v.seats * 2 ^ 59)
+SeatTrue key v = (0 < v.seats → v.about ≡ key) × (v.own ≤ v.seats * 2 ^ 59) × (v.seats ≡ 0 → v.stop.asked_memory ≡ 0)
 
 pub record KeepsSeats (key : About) (work : ℕ) (views : List View) : Type 0 where
   pub each : Each (SeatTrue key) views

@@ -7,7 +7,6 @@ use Rattle.task_state.specs.Turns.{WasFed}
 use Rattle.task_state.specs.declared.task.Halt.{Halt}
 use Rattle.task_state.specs.declared.task.Halt.TheVariants.{Spawned}
 use Rattle.join_board.specs.Calls.{CanCommit}
-use Rattle.join_board.specs.Jobs.{the_job}
 use Rattle.join_board.specs.Threads.{PrioOf, Spawns}
 use Rattle.join_board.specs.Views.{HasSeenEnd}
 use Rattle.join_board.specs.declared.view.View.{View}

@@ -3,9 +3,10 @@ ghost use Rattle.std.specs.Prelude.{◌≡◌, ◌+◌, ◌<◌, ◌≤◌, ◌-
 ghost use mathlib.Core.Option.{some};
 ghost use lib.ListN.{get_elem?};
 ghost use Rattle.join_board.specs.Logs.{total, Each};
-ghost use Rattle.join_board.specs.Views.{left, right, both};
+ghost use Rattle.join_board.specs.Inside.Views.{left, right, both};
 ghost use Rattle.join_board.specs.Handles.{knows, IsSeatOf};
-ghost use Rattle.join_board.specs.Close.{Closes, ClosesOne, Absorbed};
+ghost use Rattle.join_board.specs.Close.{Closes};
+ghost use Rattle.join_board.specs.Inside.Close.{ClosesOne, Absorbed};
 
 use crate::owned::{Board, BoardSeat};
 use crate::rule::{Cuts, Glues, Place, Top};
@@ -27,6 +28,7 @@ fn gather(top: &Top, kept: &mut Place, mut seats: Vec<BoardSeat>)
     requires others { Each (λ s. s.seat.table_id ≡ top.now.table_id) seats.items }
     ensures table { kept.new.table_id ≡ top.now.table_id }
     ensures rests { (kept.new.me.1 ≡ []) × (kept.new.me.0.hand.hand ≡ 0) × (kept.new.me.0.seats ≡ kept.old.me.0.seats + total (λ s. (knows s).seats) seats.items) }
+    ensures asked { kept.new.me.0.stop.asked_memory ≡ kept.old.me.0.stop.asked_memory + total (λ s. (knows s).stop.asked_memory) seats.items }
     ensures knows { Absorbed kept.old.me.0 kept.new.me.0 × Each (λ s. Absorbed (knows s) kept.new.me.0) seats.items }
 {
     while let Some(other) = seats.pop() {

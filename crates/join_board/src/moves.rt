@@ -1,8 +1,8 @@
 //! The steps on the words of the table.
 ghost use Rattle.std.specs.Prelude.{◌≡◌, ◌≢◌, ℕ, ◌+◌, ◌-◌, ◌^◌, ◌<◌, ◌≤◌, [], ◌∷◌, Some, None, MatchOption, MatchBool, true, cond};
-ghost use Rattle.join_board.specs.Views.{took_view, missed_view, gave_view, back_view, quiet_view, ahead_view, behind_view, alive_view, over_view, counted_view, asked_limit_view, asked_memory_view, unset_view, found_limit_view, found_memory_view};
+ghost use Rattle.join_board.specs.Inside.Views.{took_view, missed_view, gave_view, back_view, quiet_view, ahead_view, behind_view, alive_view, over_view, counted_view, asked_limit_view, asked_memory_view, unset_view, found_limit_view, found_memory_view};
 ghost use Rattle.join_board.specs.Logs.{size, spawned, finished};
-ghost use Rattle.join_board.specs.Plays.{Taken, Grew};
+ghost use Rattle.join_board.specs.Inside.Plays.{Taken, Grew};
 
 use crate::rule::{
     Adds, AsksLimit, AsksMemory, Counts, Finds, Gives, Looks, Place, Subtracts, Takes, Top,
@@ -106,7 +106,7 @@ pub(crate) fn ask_limit(top: &Top, seat: &mut Place)
 }
 
 pub(crate) fn ask_memory(top: &Top, seat: &mut Place)
-    requires table { (seat.old.table_id ≡ top.now.table_id) × (top.now.table_id.words ≡ 1072) × (top.now.table_id.slots ≡ 64) }
+    requires table { (seat.old.table_id ≡ top.now.table_id) × (top.now.table_id.words ≡ 1072) × (top.now.table_id.slots ≡ 64) × (0 < seat.old.me.0.seats) }
     ensures same { seat.new.table_id ≡ seat.old.table_id }
     ensures asked { seat.new.me ≡ (asked_memory_view seat.old.me.0, seat.old.me.1) }
 {

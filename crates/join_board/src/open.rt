@@ -4,7 +4,7 @@ ghost use Rattle.core_steps.specs.Fields.{read_local};
 ghost use Rattle.core_steps.specs.Moves.{read_job};
 ghost use Rattle.join_board.specs.Entries.{Entry};
 ghost use Rattle.join_board.specs.Jobs.{the_job};
-ghost use Rattle.join_board.specs.Openings.{FirstShards, IsRooted};
+ghost use Rattle.join_board.specs.Inside.Openings.{FirstShards, IsRooted};
 ghost use Rattle.join_board.specs.Threads.{PrioOf};
 ghost use Rattle.join_board.specs.Views.{newcomer};
 ghost use Rattle.join_board.specs.Handles.{knows, IsSeatOf};

@@ -18,7 +18,7 @@ impl TableRule<Option<Shard>, View, About> for Rule {
 pub struct Takes;
 
 impl Play<Option<Shard>, View> for Takes {
-    ghost use Rattle.join_board.specs.Plays.{took};
+    ghost use Rattle.join_board.specs.Inside.Plays.{took};
 
     ghost then = { took };
 }
@@ -26,7 +26,7 @@ impl Play<Option<Shard>, View> for Takes {
 pub struct Gives;
 
 impl Play<Option<Shard>, View> for Gives {
-    ghost use Rattle.join_board.specs.Plays.{gave};
+    ghost use Rattle.join_board.specs.Inside.Plays.{gave};
 
     ghost then = { gave };
 }
@@ -34,7 +34,7 @@ impl Play<Option<Shard>, View> for Gives {
 pub struct Adds;
 
 impl Play<Option<Shard>, View> for Adds {
-    ghost use Rattle.join_board.specs.Plays.{added};
+    ghost use Rattle.join_board.specs.Inside.Plays.{added};
 
     ghost then = { added };
 }
@@ -42,7 +42,7 @@ impl Play<Option<Shard>, View> for Adds {
 pub struct Subtracts;
 
 impl Play<Option<Shard>, View> for Subtracts {
-    ghost use Rattle.join_board.specs.Plays.{subtracted};
+    ghost use Rattle.join_board.specs.Inside.Plays.{subtracted};
 
     ghost then = { subtracted };
 }
@@ -50,7 +50,7 @@ impl Play<Option<Shard>, View> for Subtracts {
 pub struct Looks;
 
 impl Play<Option<Shard>, View> for Looks {
-    ghost use Rattle.join_board.specs.Plays.{looked};
+    ghost use Rattle.join_board.specs.Inside.Plays.{looked};
 
     ghost then = { looked };
 }
@@ -58,7 +58,7 @@ impl Play<Option<Shard>, View> for Looks {
 pub struct Counts;
 
 impl Play<Option<Shard>, View> for Counts {
-    ghost use Rattle.join_board.specs.Plays.{counted};
+    ghost use Rattle.join_board.specs.Inside.Plays.{counted};
 
     ghost then = { counted };
 }
@@ -66,7 +66,7 @@ impl Play<Option<Shard>, View> for Counts {
 pub struct AsksLimit;
 
 impl Play<Option<Shard>, View> for AsksLimit {
-    ghost use Rattle.join_board.specs.Plays.{asked_limit};
+    ghost use Rattle.join_board.specs.Inside.Plays.{asked_limit};
 
     ghost then = { asked_limit };
 }
@@ -74,7 +74,7 @@ impl Play<Option<Shard>, View> for AsksLimit {
 pub struct AsksMemory;
 
 impl Play<Option<Shard>, View> for AsksMemory {
-    ghost use Rattle.join_board.specs.Plays.{asked_memory};
+    ghost use Rattle.join_board.specs.Inside.Plays.{asked_memory};
 
     ghost then = { asked_memory };
 }
@@ -82,7 +82,7 @@ impl Play<Option<Shard>, View> for AsksMemory {
 pub struct Finds;
 
 impl Play<Option<Shard>, View> for Finds {
-    ghost use Rattle.join_board.specs.Plays.{found_stop};
+    ghost use Rattle.join_board.specs.Inside.Plays.{found_stop};
 
     ghost then = { found_stop };
 }
@@ -90,7 +90,7 @@ impl Play<Option<Shard>, View> for Finds {
 pub struct Cuts;
 
 impl Split<View> for Cuts {
-    ghost use Rattle.join_board.specs.Views.{left, right};
+    ghost use Rattle.join_board.specs.Inside.Views.{left, right};
 
     ghost left = { left };
 
@@ -100,7 +100,7 @@ impl Split<View> for Cuts {
 pub struct Glues;
 
 impl Join<View> for Glues {
-    ghost use Rattle.join_board.specs.Views.{both, spent_view};
+    ghost use Rattle.join_board.specs.Inside.Views.{both, spent_view};
 
     ghost both = { both };
 

@@ -1,13 +1,14 @@
 //! A shard: the logs of some threads, and the tasks that wait for their ends.
-ghost use Rattle.std.specs.Prelude.{◌≡◌, ◌≢◌, ◌+◌, ◌*◌, ◌^◌, ◌<◌, ◌≤◌, ◌++◌, ◌∷◌, [], List, length, map, slice_index_or, IfOk, IfErr, OnErr, MatchOption, is_some};
+ghost use Rattle.std.specs.Prelude.{◌≡◌, ◌≢◌, ◌+◌, ◌*◌, ◌^◌, ◌<◌, ◌≤◌, ◌++◌, ◌∷◌, [], List, length, map, slice_index_or, None, IfOk, IfErr, OnOk, OnErr, MatchOption, is_some};
 ghost use mathlib.Core.Option.{some};
 ghost use lib.ListN.{get_elem?};
 ghost use Rattle.std.specs.Option.{option_copied, option_map};
 ghost use Rattle.priml_syntax.specs.Read.{read_outcome};
+ghost use Rattle.trace_book.specs.Logs.{IsNext, appended as log_appended};
 ghost use Rattle.trace_book.specs.Segments.{read_segment};
 ghost use Rattle.join_board.specs.Entries.{Entry};
 ghost use Rattle.join_board.specs.Logs.{Missing, IsAt, fresh, shard_of, sum_of};
-ghost use Rattle.join_board.specs.Finds.{Appended, Parked};
+ghost use Rattle.join_board.specs.Inside.Finds.{Appended, Parked};
 
 use priml_syntax::{Outcome, Path};
 use std::alloc::{AllocError, AllocFailed, Global};
@@ -15,13 +16,15 @@ use std::cmp::Ordering;
 use std::marker::Model;
 use std::mem::replace;
 use task_state::Task;
-use trace_book::{Segment, ThreadLog};
+use trace_book::{AppendStop, Segment, ThreadLog};
 
 /// Logs, each with the tasks that wait for its thread at the same place of the other list.
 #[derive(Drop)]
 pub struct Shard {
     pub(crate) logs: Vec<ThreadLog>,
     waiting: Vec<Vec<Task>>,
+    // It keeps two neighbours out of one cache line.
+    padding: [u64; 8],
 }
 
 impl Model for Shard {
@@ -59,6 +62,7 @@ impl Shard {
         Shard {
             logs: Vec::new(alloc),
             waiting: Vec::new(alloc),
+            padding: [0; 8],
         }
     }
 
@@ -66,7 +70,11 @@ impl Shard {
     pub(crate) fn into_logs(self) -> Vec<ThreadLog>
         ensures { result.items ≡ map (λ (e : Entry). e.log) self }
     {
-        let Shard { logs, waiting } = self;
+        let Shard {
+            logs,
+            waiting,
+            padding: _,
+        } = self;
         drop(waiting);
         logs
     }
@@ -118,7 +126,7 @@ impl Shard {
         }
     }
 
-    /// Appends the segment, and hands out the tasks that wait, where it ends the thread.
+    /// Appends the segment to the log of a thread that has not ended, and hands out the tasks that wait, where it ends it.
     pub(crate) fn append(
         &mut self,
         alloc: Global,
@@ -126,13 +134,13 @@ impl Shard {
         segment: Segment,
     ) -> Result<Vec<Task>, Segment>
         requires inside { i < length self.old }
-        requires thread { (e : Entry) → get_elem? self.old i ≡ some e → (e.log.path ≡ segment.path) × (length e.log.events ≡ segment.from) }
+        requires thread { (e : Entry) → get_elem? self.old i ≡ some e → (e.log.path ≡ segment.path) × (length e.log.events ≡ segment.from) × (e.log.outcome ≡ None) }
         ensures ok { IfOk result (λ ts. Appended self.old i (read_segment segment) self.new ts.items) }
         ensures handed_back { IfErr result (λ s. read_segment s ≡ read_segment segment) }
         ensures kept { OnErr result (self.new ≡ self.old) }
     {
         let end = segment.outcome.is_some();
-        match self.logs[i].append(segment) {
+        match append_next(&mut self.logs[i], segment) {
             Ok(()) => {
                 let none = Vec::new(alloc);
                 if end {
@@ -141,7 +149,7 @@ impl Shard {
                     Ok(none)
                 }
             }
-            Err((segment, _)) => Err(segment),
+            Err(segment) => Err(segment),
         }
     }
 
@@ -176,9 +184,33 @@ impl Shard {
         ensures ok { IfOk result (λ _. Parked self.old i task self.new) }
         ensures err { IfErr result (λ t. (t ≡ task) × (self.new ≡ self.old)) }
     {
-        if let Err(AllocFailed { value }) = self.waiting[i].push(task) {
-            return Err(value);
-        }
-        Ok(())
+        put_last(&mut self.waiting[i], task)
+    }
+}
+
+// Appends the segment to a log where it is next.
+fn append_next(log: &mut ThreadLog, segment: Segment) -> Result<(), Segment>
+    requires { (segment.path ≡ log.old.path) × IsNext log.old (read_segment segment) }
+    ensures ok { OnOk result (log.new ≡ log_appended log.old (read_segment segment)) }
+    ensures handed_back { IfErr result (λ s. read_segment s ≡ read_segment segment) }
+    ensures kept { OnErr result (log.new ≡ log.old) }
+{
+    let Err((segment, why)) = log.append(segment) else {
+        return Ok(());
+    };
+    match why {
+        AppendStop::OutOfMemory => Err(segment),
+        AppendStop::Gap(_) | AppendStop::Ended => unreachable!(),
+    }
+}
+
+// The task goes behind those that wait.
+fn put_last(waiting: &mut Vec<Task>, task: Task) -> Result<(), Task>
+    ensures ok { IfOk result (λ _. waiting.new.items ≡ waiting.old.items ++ task ∷ []) }
+    ensures err { IfErr result (λ t. (t ≡ task) × (waiting.new.items ≡ waiting.old.items)) }
+{
+    match waiting.push(task) {
+        Ok(()) => Ok(()),
+        Err(AllocFailed { value }) => Err(value),
     }
 }

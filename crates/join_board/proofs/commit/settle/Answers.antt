@@ -1,6 +1,6 @@
 use Rattle.std.proofs.Common.{ap, ◌∙◌, arith, cond, []}
 use Rattle.join_board.specs.declared.view.View.{View}
-use Rattle.join_board.specs.Views.{gave_view, ahead_view, behind_view}
+use Rattle.join_board.specs.Inside.Views.{gave_view, ahead_view, behind_view}
 use Rattle.join_board.proofs.Steps.{grown_sums}
 use Rattle.join_board.proofs.Calls.{settled}
 use Rattle.join_board.proofs.commit.settle.Goals as goal

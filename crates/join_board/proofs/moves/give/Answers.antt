@@ -1,7 +1,7 @@
 use Rattle.std.proofs.Common.{rules, ◌∷◌, sym, ap, subst, Some, ◌∙◌}
 use Rattle.atomic_table.specs.Table.{rest}
-use Rattle.join_board.specs.Views.{gave_view}
-use Rattle.join_board.specs.Plays.{Grew, content}
+use Rattle.join_board.specs.Inside.Views.{gave_view}
+use Rattle.join_board.specs.Inside.Plays.{Grew, content}
 use Rattle.join_board.proofs.Steps.{gives_shard}
 use Rattle.join_board.proofs.moves.give.Goals as goal
 

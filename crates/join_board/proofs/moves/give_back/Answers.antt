@@ -1,6 +1,6 @@
 use Rattle.std.proofs.Common.{ap, ◌∙◌, []}
 use Rattle.join_board.proofs.Calls.{gave_back}
-use Rattle.join_board.specs.Views.{gave_view}
+use Rattle.join_board.specs.Inside.Views.{gave_view}
 use Rattle.join_board.proofs.moves.give_back.Goals as goal
 
 pub returns-clause-given : goal.returns-clause-given

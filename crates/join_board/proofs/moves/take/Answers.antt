@@ -1,8 +1,8 @@
 use Rattle.std.proofs.Common.{rules, ◌≡◌, ◌∷◌, sym, ap, subst, Some, None, ◌∙◌, refl}
 use Rattle.std.specs.Option.{IsSome}
 use Rattle.atomic_table.specs.Table.{rest}
-use Rattle.join_board.specs.Views.{took_view, missed_view}
-use Rattle.join_board.specs.Plays.{in_slot, Taken}
+use Rattle.join_board.specs.Inside.Views.{took_view, missed_view}
+use Rattle.join_board.specs.Inside.Plays.{in_slot, Taken}
 use Rattle.join_board.proofs.Steps.{takes_seated, first_slot}
 use Rattle.join_board.proofs.moves.take.Goals as goal
 

@@ -1,6 +1,6 @@
 use Rattle.std.proofs.Common.{◌<◌, ◌^◌, length, ap, sym, refl, subst, arith}
 use Rattle.core_steps.specs.Steps.{Job}
-use Rattle.join_board.specs.Openings.{IsRooted}
+use Rattle.join_board.specs.Inside.Openings.{IsRooted}
 use Rattle.join_board.proofs.Openings.{Rooted, bare, root_next}
 use Rattle.join_board.proofs.open.first_shards.Goals as goal
 

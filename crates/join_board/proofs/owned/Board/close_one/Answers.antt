@@ -4,7 +4,7 @@ use Rattle.std.specs.Slots.{slots_items, slots_filled}
 use Rattle.std.proofs.lemmas.List.{ext_get_or}
 use mathlib.Core.Option.{some, some-injective}
 use lib.ListN.{get_elem?}
-use Rattle.join_board.specs.Plays.{in_slot}
+use Rattle.join_board.specs.Inside.Plays.{in_slot}
 use Rattle.join_board.specs.Logs.{shard_at}
 use Rattle.join_board.specs.Close.{logs_in}
 use Rattle.trace_book.specs.Book.{NoPathTwice, all_logs}
@@ -49,4 +49,4 @@ of_shards-requires c = let f = closing c.args.self.table.shared.key _ c.args.sea
 pub returns : goal.returns
 returns c = let f = closing c.args.self.table.shared.key _ c.args.seat.me.0 _ _ c.requires.all.0 c.requires.all.1 c.close_with-closed.ensures.values.2 in let t = c.loop-i.invariant.6 in let m = f.1.1.deep in let all : c.loop-i.i ≡ 64 = search rules in let n = t.1 in
     let same : t.0 ≡ f.0 = ext_get_or [] t.0 f.0 (omega (arith, n, m, all)) (λ k l. ap in_slot (some-injective _ _ (sym (t.2 k (omega (arith, l, n))) ∙ f.2 k (omega (arith, l, n, all))))) in
-    (f.0, c.of_shards.ensures ∙ (t.3 ∙ ap logs_in same), f.1)
+    (f.0, c.of_shards.ensures ∙ (t.3 ∙ ap logs_in same), f.1, f.3)

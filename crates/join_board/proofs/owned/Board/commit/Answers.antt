@@ -1,11 +1,11 @@
-use Rattle.std.proofs.Common.{rules, ◌≡◌, ℕ, ◌+◌, ◌<◌, List, ◌++◌, sym, ap, ◌∙◌, subst, refl, inl, inr, arith, cond, append_assoc, append-nil}
+use Rattle.std.proofs.Common.{rules, ◌≡◌, ℕ, ◌+◌, ◌<◌, List, ◌++◌, length, sym, ap, ◌∙◌, subst, refl, inl, inr, arith, cond, append_assoc, append-nil}
 use mathlib.Core.Option.{some-injective}
 use lib.ListN.{get_elem?}
 use Rattle.join_board.specs.Threads.{spawned_last}
-use Rattle.join_board.specs.Views.{took_view, settled_view, back_view, ahead_view}
+use Rattle.join_board.specs.Inside.Views.{took_view, settled_view, back_view, ahead_view}
 use Rattle.priml_syntax.specs.Events.{spawns, ends}
 use Rattle.trace_book.specs.Segments.{read_segment}
-use Rattle.join_board.specs.Plays.{Grew_by}
+use Rattle.join_board.specs.Inside.Plays.{Grew_by}
 use Rattle.join_board.specs.Jobs.{the_job}
 use Rattle.join_board.specs.Logs.{CanWait, Each, Missing, sights}
 use Rattle.join_board.specs.Calls.{NotListed}
@@ -13,7 +13,7 @@ use Rattle.join_board.specs.Entries.{Entry}
 use Rattle.task_state.specs.Tasks.{TaskKey}
 use Rattle.join_board.specs.declared.view.View.{View}
 use Rattle.join_board.proofs.Sums.{at_lt}
-use Rattle.join_board.proofs.Calls.{handed_wait, not_listed, grows, grown, spawn_is, end_is, bit_few, sees_appended, hands}
+use Rattle.join_board.proofs.Calls.{can_grow, handed_wait, not_listed, grows, grown, spawn_is, end_is, bit_few, sees_appended, hands}
 use Rattle.join_board.proofs.owned.Board.commit.Goals as goal
 
 pub len_at-len-requires : goal.len_at-len-requires
@@ -24,7 +24,8 @@ append-requires-clause-inside c = let at = c.in-Some-find.ensures in at_lt c.in-
 
 pub append-requires-clause-thread : goal.append-requires-clause-thread
 append-requires-clause-thread c = λ e there. let at = c.in-Some-find.ensures in let same : at.0 ≡ e = some-injective at.0 e (sym at.1 ∙ there) in let equal : c.len_at-len.result ≡ c.args.segment.from = search rules in
-    (ap (λ (u : Entry). u.log.path) (sym same) ∙ at.2, sym (c.len_at-len.ensures e there) ∙ equal)
+    let path : e.log.path ≡ c.args.segment.path = ap (λ (u : Entry). u.log.path) (sym same) ∙ at.2 in let from : length e.log.events ≡ c.args.segment.from = sym (c.len_at-len.ensures e there) ∙ equal in
+    (path, from, can_grow c.args.seat.now.seat.me.0 c.shard_of-shard.result c.in-Some.value c.in-Some-find.i (read_segment c.args.segment) e c.in-Some.ensures.found.1 there path from c.requires.segment)
 
 pub returns-then-len-segment-clause-answer : goal.returns-then-len-segment-clause-answer
 returns-then-len-segment-clause-answer c = let took = c.in-Some.ensures.found.0 in let at = c.in-Some-find.ensures in let x = c.in-Some.value in let i = c.in-Some-find.i in let v = c.args.seat.now.seat.me.0 in

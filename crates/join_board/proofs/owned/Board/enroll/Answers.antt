@@ -1,8 +1,8 @@
 use Rattle.std.proofs.Common.{◌≡◌, List, ◌++◌, length, sym, ap, ◌∙◌, subst, refl, append-nil, false}
 use lib.ListN.{get_elem?}
-use Rattle.join_board.specs.Views.{took_view, quiet_view, back_view}
+use Rattle.join_board.specs.Inside.Views.{took_view, quiet_view, back_view}
 use Rattle.join_board.specs.Threads.{ended}
-use Rattle.join_board.specs.Plays.{Grew}
+use Rattle.join_board.specs.Inside.Plays.{Grew}
 use Rattle.join_board.specs.Logs.{sights, sight, size, spawned, finished, fresh}
 use Rattle.task_state.specs.Tasks.{TaskKey}
 use Rattle.join_board.specs.declared.view.View.{View}

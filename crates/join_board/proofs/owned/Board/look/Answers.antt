@@ -2,7 +2,7 @@ use Rattle.std.proofs.Common.{◌≡◌, List, ◌++◌, length, sym, ap, ◌∙
 use lib.ListN.{get_elem?}
 use Rattle.std.specs.Option.{option_map}
 use Rattle.priml_syntax.specs.Read.{read_outcome}
-use Rattle.join_board.specs.Views.{took_view, back_view}
+use Rattle.join_board.specs.Inside.Views.{took_view, back_view}
 use Rattle.join_board.specs.Logs.{sights, sight, Missing}
 use Rattle.join_board.specs.Calls.{NotListed}
 use Rattle.join_board.specs.Clauses.{EndedIn, NotEndedIn}

@@ -1,6 +1,7 @@
 use Rattle.std.proofs.Common.{rules, ◌≡◌, ℕ, ◌+◌, ◌-◌, sym, ap, ◌∙◌, subst, arith}
 use Rattle.join_board.specs.Logs.{Each}
-use Rattle.join_board.specs.Views.{opened_view, left, right}
+use Rattle.join_board.specs.Views.{opened_view}
+use Rattle.join_board.specs.Inside.Views.{left, right}
 use Rattle.join_board.specs.Handles.{knows, IsSeatOf}
 use Rattle.join_board.specs.declared.owned.BoardSeat.{BoardSeat}
 use Rattle.join_board.proofs.Gather.{each_snoc}

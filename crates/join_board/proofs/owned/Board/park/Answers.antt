@@ -1,7 +1,7 @@
 use Rattle.std.proofs.Common.{◌≡◌, List, ◌++◌, sym, ap, ◌∙◌, subst, refl, append-nil}
 use mathlib.Core.Option.{some-injective}
-use Rattle.join_board.specs.Views.{took_view, quiet_view, back_view}
-use Rattle.join_board.specs.Plays.{Grew}
+use Rattle.join_board.specs.Inside.Views.{took_view, quiet_view, back_view}
+use Rattle.join_board.specs.Inside.Plays.{Grew}
 use Rattle.join_board.specs.Logs.{size, spawned, finished}
 use Rattle.join_board.specs.Calls.{NotListed}
 use Rattle.join_board.specs.Clauses.{EndedIn}

@@ -10,12 +10,12 @@ use Rattle.join_board.proofs.shard.Shard.append.Goals as goal
 pub index_mut-requires : goal.index_mut-requires
 index_mut-requires c = let l = paired_length _ _ c.self.invariant in let v = ap length c.self.view_is in let i = c.requires.inside in omega (arith, l, v, i)
 
-pub append-requires : goal.append-requires
-append-requires c = let ls = c.self.inside.logs.items in let ws = c.self.inside.waiting.items in let i = c.args.i in let a = c.index_mut.result.now in
+pub append_next-requires : goal.append_next-requires
+append_next-requires c = let ls = c.self.inside.logs.items in let ws = c.self.inside.waiting.items in let i = c.args.i in let a = c.index_mut.result.now in
     let inside : i < length ls = (let l = paired_length _ _ c.self.invariant in let v = ap length c.self.view_is in let h = c.requires.inside in omega (arith, l, v, h)) in
     let w = some_at ws i (let even = c.self.invariant in omega (arith, inside, even)) in
     let at = subst (λ (xs : List Entry). get_elem? xs i ≡ some (pair a w.0)) c.self.view_is (at_paired ls ws i a w.0 (at_index ls i a inside c.index_mut.ensures.value) w.1) in
-    record { same = sym (c.requires.thread (pair a w.0) at).0 }
+    let h = c.requires.thread (pair a w.0) at in (sym h.0, (sym h.1, h.2))
 
 pub index_mut-requires-then-end : goal.index_mut-requires-then-end
 index_mut-requires-then-end c = let l = paired_length _ _ c.self.invariant in let v = ap length c.self.view_is in let i = c.requires.inside in let even = c.self.invariant in omega (arith, l, v, i, even)
@@ -30,7 +30,7 @@ returns-then-end-clause-ok c = let ls = c.self.inside.logs.items in let ws = c.s
     let bare = ap (λ (v : Waiting). v.items) c.replace.ensures.after ∙ (c.new-none.ensures.items ∙ sym (kept_some s.outcome w.items ends)) in (
       pair a w,
       at,
-      paired_both ls ws i c.append.new.self c.replace.new.dest ∙ (λ k. set (c.self.view_is k) i (record { log = c.in-Ok.ensures.ok k; waiting = bare k })),
+      paired_both ls ws i c.append_next.new.log c.replace.new.dest ∙ (λ k. set (c.self.view_is k) i (record { log = c.in-Ok.ensures.ok k; waiting = bare k })),
       ap (λ (v : Waiting). v.items) c.replace.ensures.value ∙ sym (out_some s.outcome w.items ends),
     )
 
@@ -43,6 +43,6 @@ returns-else-end-clause-ok c = let ls = c.self.inside.logs.items in let ws = c.s
     let same = sym (kept_none s.outcome w.0.items goes_on) in (
       pair a w.0,
       at,
-      paired_log ls ws i c.append.new.self w.0 w.1 ∙ (λ k. set (c.self.view_is k) i (record { log = c.in-Ok.ensures.ok k; waiting = same k })),
+      paired_log ls ws i c.append_next.new.log w.0 w.1 ∙ (λ k. set (c.self.view_is k) i (record { log = c.in-Ok.ensures.ok k; waiting = same k })),
       c.new-none.ensures.items ∙ sym (out_none s.outcome w.0.items goes_on),
     )

@@ -3,11 +3,12 @@ use Rattle.std.specs.Prelude.{◌≡◌, ◌≢◌, ℕ, ◌+◌, ◌-◌, ◌%�
 use mathlib.Core.Option.{some}
 use lib.ListN.{get_elem?}
 use Rattle.atomic_table.specs.Table.{Me, Step, rest}
+use Rattle.priml_syntax.specs.declared.event.Event.{Event}
 use Rattle.priml_syntax.specs.declared.value.Outcome.{Outcome}
 use Rattle.priml_syntax.specs.Events.{AllJoins, spawns, ends}
 use Rattle.priml_syntax.specs.Read.{read_outcome}
-use Rattle.core_steps.specs.Determined.{EndsWith}
-use Rattle.core_steps.specs.Steps.{Job}
+use Rattle.core_steps.specs.Determined.{EndsWith, Trace}
+use Rattle.core_steps.specs.Steps.{Job, State}
 use Rattle.trace_book.specs.Segments.{SegmentFields}
 use Rattle.task_state.specs.Segments.{IsSegmentOf}
 use Rattle.task_state.specs.declared.task.Task.{Task}
@@ -16,16 +17,18 @@ use Rattle.join_board.specs.Jobs.{the_job}
 use Rattle.join_board.specs.Rule.{word_of}
 use Rattle.join_board.specs.Threads.{PrioOf, ended}
 use Rattle.join_board.specs.Logs.{Each, log_in, shard_of, appended, fresh, parked_on, IsListed, Missing, CanWait}
-use Rattle.join_board.specs.Views.{took_view, missed_view, gave_view, ahead_view, added_view, subtracted_view, alive_view, over_view, counted_view, asked_limit_view, asked_memory_view, unset_view, found_limit_view, found_memory_view, HasSeenEnd, HasSeenSpawn}
+use Rattle.join_board.specs.Views.{HasSeenEnd, HasSeenSpawn}
+use Rattle.join_board.specs.Inside.Views.{took_view, missed_view, gave_view, added_view, subtracted_view, alive_view, over_view, counted_view, asked_limit_view, asked_memory_view, unset_view, found_limit_view, found_memory_view}
 use Rattle.join_board.specs.declared.view.Sight.{Sight}
 use Rattle.join_board.specs.declared.view.View.{View}
 
 abbrev Sat : Type 0
 Sat = Me (Option (List Entry)) View
 
--- an entry has an outcome exactly where its log ends in End, and then its thread's
+-- an entry has an outcome exactly where its log ends in End, and then its thread's; that makes no step more
 abbrev pub Told : Job → Entry → Type 0
 Told job e = (e.log.outcome ≡ None → ended e.log.events ≡ false) × ((o : Outcome) → e.log.outcome ≡ Some o → (ended e.log.events ≡ true) × EndsWith job e.log.path (read_outcome o))
+    × (ended e.log.events ≡ true → (es : List Event) (s : State) → Trace job e.log.path (length e.log.events) es s → es ≡ [])
 
 -- what a take tells of the shard
 pub record Taken (v : View) (k : ℕ) (x : List Entry) : Type 0 where
@@ -99,10 +102,6 @@ added st m n m' = m' ≡ (added_view m.0, m.1)
 
 abbrev pub subtracted : Step (Option (List Entry)) → Sat → ℕ → Sat → Type 0
 subtracted st m n m' = m' ≡ (subtracted_view m.0, m.1)
-
--- after a commit that was refused behind the count; no call of this crate makes this step
-abbrev pub dropped : Step (Option (List Entry)) → Sat → ℕ → Sat → Type 0
-dropped st m n m' = m' ≡ (ahead_view m.0 0, m.1)
 
 abbrev pub looked : Step (Option (List Entry)) → Sat → ℕ → Sat → Type 0
 looked st m n m' = (n ≡ 0 → m' ≡ (over_view m.0, m.1)) × (n ≢ 0 → m' ≡ (alive_view m.0, m.1))

@@ -1,10 +1,9 @@
 -- The book of a closed board.
-use Rattle.std.proofs.Common.{◌≡◌, ℕ, ◌+◌, ◌<◌, ◌≤◌, List, [], ◌∷◌, ◌++◌, length, map, Some, sym, refl, ap, ◌∙◌, subst, arith}
+use Rattle.std.proofs.Common.{◌≡◌, ℕ, ◌+◌, ◌<◌, ◌≤◌, List, [], ◌∷◌, ◌++◌, length, map, Some, sym, refl, ap, ◌∙◌, arith}
 use Rattle.priml_syntax.specs.Values.{Entry as Record}
 use Rattle.core_steps.specs.Config.{Thread, IsFinished}
 use Rattle.core_steps.specs.Determined.{steps_of, unended}
 use Rattle.core_steps.specs.Meaning.{Meaning, Over, Finished, meaning}
-use Rattle.core_steps.specs.Steps.{Job}
 use Rattle.core_steps.proofs.CoreLaws.{core_laws}
 use Rattle.trace_book.specs.declared.segment.Cut.{Cut}
 use Rattle.trace_book.specs.Book.{work}
@@ -18,8 +17,8 @@ use Rattle.join_board.specs.Logs.{Covers, size, total}
 use Rattle.join_board.specs.Rule.{KeepsLogs}
 use Rattle.join_board.specs.declared.view.About.{About}
 use Rattle.join_board.proofs.Books.{logs_apart}
-use Rattle.steal_runtime.specs.Runs.{CutsCover, IsCut, IsRun}
-use Rattle.steal_runtime.proofs.Logs.{each_entry, reads_as}
+use Rattle.join_board.proofs.Readings.{each_entry, reads_as}
+use Rattle.steal_runtime.specs.Runs.{CutsCover, IsCutByWorkers, IsRun}
 
 work_append : (xs ys : List Log) → work (xs ++ ys) ≡ work xs + work ys
 work_append [] ys = omega arith
@@ -53,7 +52,7 @@ is_run key shards c limit k none few = let job = the_job key in let laws = core_
       meant = meant;
       apart = logs_apart key shards c k;
       few = few;
-      cuts = each_entry key shards c k (IsCut key.opened key.quantum) (λ j i e l at. covers_cut key 0 e.log.cuts (length e.log.events) (k.entries j l i e at).2);
+      cuts = each_entry key shards c k (IsCutByWorkers key.opened key.quantum) (λ j i e l at. covers_cut key 0 e.log.cuts (length e.log.events) (k.entries j l i e at).2);
     }
 
 -- where the work exceeds the limit

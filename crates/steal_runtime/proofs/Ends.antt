@@ -17,9 +17,10 @@ use Rattle.join_board.specs.Handles.{knows, IsSeatOf}
 use Rattle.join_board.specs.Jobs.{the_job}
 use Rattle.join_board.specs.Logs.{Each, total}
 use Rattle.steal_runtime.specs.Runs.{IsRun}
-use Rattle.steal_runtime.specs.Seats.{Sits, SomeOver, about}
+use Rattle.steal_runtime.specs.Inside.Seats.{Sits, SomeOver, about}
 use Rattle.steal_runtime.proofs.Books.{is_run, over_limit}
-use Rattle.steal_runtime.proofs.Logs.{all_of, contains_at}
+use Rattle.join_board.proofs.Books.{all_of}
+use Rattle.join_board.proofs.Readings.{contains_at}
 use Rattle.steal_runtime.proofs.Seats.{at_left}
 
 pub each_seat : (b : Board) (ss : List BoardSeat) → All (Sits b) ss → Each (λ (s : BoardSeat). IsSeatOf b s) ss

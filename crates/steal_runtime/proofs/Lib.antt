@@ -1,5 +1,4 @@
 mod Seats
-mod Logs
 mod Tasks
 mod Books
 mod Ends

@@ -15,7 +15,7 @@ use Rattle.join_board.specs.Jobs.{the_job}
 use Rattle.join_board.specs.Threads.{Spawns}
 use Rattle.join_board.specs.Views.{HasSeenEnd, HasSeenSpawn}
 use Rattle.join_board.proofs.Laws.{all_joins}
-use Rattle.steal_runtime.specs.Seats.{Sits, Stays}
+use Rattle.steal_runtime.specs.Inside.Seats.{Sits, Stays}
 
 pub same_refl : (v : View) → SameSeat v v
 same_refl v = (refl, refl, ([], sym (append-nil v.seen)))

@@ -1,11 +1,10 @@
 -- Tasks in the hands of a worker.
-use Rattle.std.proofs.Common.{◌≡◌, ℕ, ◌+◌, ◌<◌, ◌≤◌, ◌^◌, List, [], ◌∷◌, ◌++◌, length, Bool, true, false, true≢false, ◌||◌, Option, Some, None, sym, refl, ap, ◌∙◌, subst, arith}
+use Rattle.std.proofs.Common.{◌≡◌, ℕ, ◌+◌, ◌<◌, ◌≤◌, ◌^◌, List, [], length, Bool, true, false, true≢false, ◌||◌, Option, Some, None, sym, refl, ap, ◌∙◌, subst, arith}
 use Rattle.std.specs.Prelude.{is_some, IsSome}
 use Rattle.std.specs.List.{All}
 use Rattle.std.proofs.lemmas.List.Elements.{All-from_recursion}
 use Rattle.std.proofs.lemmas.Option.{same_Some, none-some}
 use Rattle.priml_syntax.specs.Events.{AllJoins}
-use Rattle.priml_syntax.specs.Paths.{child_path}
 use Rattle.priml_syntax.specs.Values.{Outcome'}
 use Rattle.core_steps.specs.Locals.{ended_with}
 use Rattle.core_steps.specs.Steps.{Job, Phase, Ended, awaits_phase, outcome_in}
@@ -27,9 +26,9 @@ use Rattle.join_board.specs.Logs.{CanWait, Each}
 use Rattle.join_board.specs.Threads.{PrioOf, Spawns}
 use Rattle.join_board.specs.Views.{HasSeenEnd, HasSeenSpawn}
 use Rattle.join_board.proofs.Laws.{all_joins}
-use Rattle.steal_runtime.specs.Seats.{Sits, about}
-use Rattle.steal_runtime.specs.Tasks.{CanRun}
-use Rattle.steal_runtime.proofs.Logs.{all_of}
+use Rattle.steal_runtime.specs.Inside.Seats.{Sits, about}
+use Rattle.steal_runtime.specs.Inside.Tasks.{CanRun}
+use Rattle.join_board.proofs.Books.{all_of}
 use Rattle.steal_runtime.proofs.Seats.{seen_end}
 
 unfed_of : (o : Option Outcome') (b : Option (List ℕ)) (p : List ℕ) → unfed o b ≡ Some p → (o ≡ None) × (b ≡ Some p)

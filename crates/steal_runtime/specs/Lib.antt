@@ -1,3 +1,2 @@
 pub mod Runs
-pub mod Seats
-pub mod Tasks
+pub mod Inside

@@ -16,8 +16,8 @@ CutsCover workers quantum n [] m = n ≡ m
 CutsCover workers quantum n (c ∷ cs) m = (c.from ≡ n) × (0 < c.steps) × (c.steps ≤ quantum) × (c.worker < workers) × CutsCover workers quantum (n + c.steps) cs m
 
 -- the log of a thread is of cuts by the workers
-abbrev pub IsCut : ℕ → ℕ → Log → Type 0
-IsCut workers quantum l = CutsCover workers quantum 0 l.cuts (length l.events)
+abbrev pub IsCutByWorkers : ℕ → ℕ → Log → Type 0
+IsCutByWorkers workers quantum l = CutsCover workers quantum 0 l.cuts (length l.events)
 
 -- the logs are those of a whole run on so many workers: one for each thread, in the order of their paths the records of the serial meaning, with at most
 -- `limit` steps
@@ -27,7 +27,7 @@ pub record IsRun (job : Job) (workers quantum limit : ℕ) (logs : List Log) : T
   pub meant : (n : ℕ) → work logs ≤ n → meaning job n ≡ Finished records
   pub apart : NoPathTwice logs
   pub few : work logs ≤ limit
-  pub cuts : AllByRecursion (IsCut workers quantum) logs
+  pub cuts : AllByRecursion (IsCutByWorkers workers quantum) logs
 
 -- the work of the job exceeds the limit, and so does the number that is told
 abbrev pub IsStop : Job → ℕ → RunStop → Type 0

@@ -8,8 +8,8 @@ ghost use Rattle.join_board.specs.Calls.{HasSeen};
 ghost use Rattle.join_board.specs.Handles.{knows};
 ghost use Rattle.join_board.specs.Jobs.{the_job};
 ghost use Rattle.join_board.specs.Views.{HasSeenEnd};
-ghost use Rattle.steal_runtime.specs.Seats.{Serves, Sits, Stays, about};
-ghost use Rattle.steal_runtime.specs.Tasks.{AwaitsOne, CanRun};
+ghost use Rattle.steal_runtime.specs.Inside.Seats.{Serves, Sits, Stays, about};
+ghost use Rattle.steal_runtime.specs.Inside.Tasks.{AwaitsOne, CanRun};
 
 use crate::parts::Duty;
 use crate::publish::{enroll, publish};

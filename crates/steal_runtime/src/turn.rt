@@ -3,7 +3,7 @@ ghost use Rattle.std.specs.Prelude.{◌≡◌};
 ghost use Rattle.core_steps.specs.Moves.{read_job};
 ghost use Rattle.task_state.specs.Tasks.{read_task};
 ghost use Rattle.priority_deques.specs.Tasks.{IsAtRest};
-ghost use Rattle.steal_runtime.specs.Seats.{Serves, Sits, Stays};
+ghost use Rattle.steal_runtime.specs.Inside.Seats.{Serves, Sits, Stays};
 
 use crate::advance::advance;
 use crate::parts::Duty;

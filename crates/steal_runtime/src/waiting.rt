@@ -1,11 +1,11 @@
 //! A worker's task awaits a thread.
-ghost use Rattle.std.specs.Prelude.{◌≡◌, ◌≤◌, ◌^◌, IfOk, IfSome, Some, IsSome};
+ghost use Rattle.std.specs.Prelude.{◌≡◌, ◌^◌, IfOk, IfSome, Some, IsSome};
 ghost use Rattle.core_steps.specs.Moves.{read_job};
 ghost use Rattle.task_state.specs.Tasks.{awaited_of, read_task};
 ghost use Rattle.join_board.specs.Handles.{knows};
 ghost use Rattle.join_board.specs.Jobs.{the_job};
-ghost use Rattle.steal_runtime.specs.Seats.{Sits, Stays, about};
-ghost use Rattle.steal_runtime.specs.Tasks.{AwaitsOne, CanRun};
+ghost use Rattle.steal_runtime.specs.Inside.Seats.{Sits, Stays, about};
+ghost use Rattle.steal_runtime.specs.Inside.Tasks.{AwaitsOne, CanRun};
 
 use crate::put::put;
 use join_board::{Board, BoardSeat, Look, Park};

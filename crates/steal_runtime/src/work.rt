@@ -1,7 +1,6 @@
 //! A worker.
 ghost use Rattle.std.specs.Prelude.{◌≡◌, ◌<◌, true};
-ghost use Rattle.join_board.specs.Handles.{knows};
-ghost use Rattle.steal_runtime.specs.Seats.{Leaves, Serves, Sits};
+ghost use Rattle.steal_runtime.specs.Inside.Seats.{Leaves, Serves, Sits};
 
 use crate::gate::Gate;
 use crate::nap::idle;

@@ -8,7 +8,7 @@ use Rattle.join_board.specs.Handles.{knows}
 use Rattle.join_board.specs.Jobs.{the_job}
 use Rattle.join_board.specs.Threads.{PrioOf}
 use Rattle.join_board.specs.Views.{HasSeenSpawn}
-use Rattle.steal_runtime.specs.Seats.{about}
+use Rattle.steal_runtime.specs.Inside.Seats.{about}
 use Rattle.steal_runtime.proofs.Tasks.{has_spawned, prio_of, turn_joins}
 use Rattle.steal_runtime.proofs.advance.advance.Goals as goal
 

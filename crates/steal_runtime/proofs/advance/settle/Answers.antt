@@ -1,6 +1,5 @@
 use Rattle.std.proofs.Common.{sym, subst, IfSome}
 use Rattle.std.specs.List.{All}
-use Rattle.core_steps.specs.Moves.{read_job}
 use Rattle.core_steps.specs.Steps.{Job}
 use Rattle.trace_book.specs.Segments.{read_segment}
 use Rattle.task_state.specs.declared.task.Task.{Task}
@@ -9,7 +8,7 @@ use Rattle.priority_deques.specs.Tasks.{IsAtRest}
 use Rattle.join_board.specs.Handles.{knows}
 use Rattle.join_board.specs.Jobs.{the_job}
 use Rattle.join_board.specs.Threads.{ended}
-use Rattle.steal_runtime.specs.Seats.{IsPublished, about}
+use Rattle.steal_runtime.specs.Inside.Seats.{IsPublished, about}
 use Rattle.steal_runtime.proofs.Seats.{has_seen}
 use Rattle.steal_runtime.proofs.Tasks.{all_rest, seen_steps}
 use Rattle.steal_runtime.proofs.advance.settle.Goals as goal

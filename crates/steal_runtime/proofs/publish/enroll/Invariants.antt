@@ -1,6 +1,6 @@
 use Rattle.join_board.specs.Calls.{SameSeat}
 use Rattle.join_board.specs.Handles.{knows}
-use Rattle.steal_runtime.specs.Seats.{Sits}
+use Rattle.steal_runtime.specs.Inside.Seats.{Sits}
 use Rattle.steal_runtime.proofs.publish.enroll.Given as goal
 
 abbrev pub invariant-loop : goal.invariant-loop

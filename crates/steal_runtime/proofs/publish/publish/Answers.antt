@@ -6,7 +6,7 @@ use Rattle.join_board.specs.Jobs.{the_job}
 use Rattle.join_board.specs.Logs.{CanWait, Each}
 use Rattle.join_board.specs.Threads.{ended}
 use Rattle.join_board.specs.declared.view.About.{About}
-use Rattle.steal_runtime.specs.Seats.{about}
+use Rattle.steal_runtime.specs.Inside.Seats.{about}
 use Rattle.steal_runtime.proofs.Seats.{can_commit}
 use Rattle.steal_runtime.proofs.publish.publish.Goals as goal
 

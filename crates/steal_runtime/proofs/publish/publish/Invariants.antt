@@ -2,7 +2,7 @@ use Rattle.std.proofs.Common.{◌≡◌}
 use Rattle.trace_book.specs.Segments.{read_segment}
 use Rattle.join_board.specs.Calls.{SameSeat}
 use Rattle.join_board.specs.Handles.{knows}
-use Rattle.steal_runtime.specs.Seats.{Sits}
+use Rattle.steal_runtime.specs.Inside.Seats.{Sits}
 use Rattle.steal_runtime.proofs.publish.publish.Given as goal
 
 abbrev pub invariant-loop : goal.invariant-loop

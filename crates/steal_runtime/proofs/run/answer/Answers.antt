@@ -1,6 +1,5 @@
-use Rattle.std.proofs.Common.{◌≤◌, arith, ◌∙◌}
-use Rattle.trace_book.specs.Book.{work}
-use Rattle.steal_runtime.specs.Seats.{about}
+use Rattle.std.proofs.Common.{arith}
+use Rattle.steal_runtime.specs.Inside.Seats.{about}
 use Rattle.steal_runtime.proofs.Ends.{all_seats, each_seat, past, whole}
 use Rattle.steal_runtime.proofs.run.answer.Goals as goal
 

@@ -1,7 +1,7 @@
 use Rattle.std.proofs.Common.{◌≡◌, ◌+◌, vec_len}
 use Rattle.std.specs.List.{All}
 use Rattle.join_board.specs.declared.owned.BoardSeat.{BoardSeat}
-use Rattle.steal_runtime.specs.Seats.{Serves, Sits}
+use Rattle.steal_runtime.specs.Inside.Seats.{Serves, Sits}
 use Rattle.steal_runtime.proofs.run.deal.Given as goal
 
 abbrev pub invariant-loop-end : goal.invariant-loop-end

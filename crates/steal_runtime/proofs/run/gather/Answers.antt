@@ -2,7 +2,7 @@ use Rattle.std.proofs.Common.{rules, ◌≡◌, ◌<◌, ◌⊎◌, inl, inr, sy
 use Rattle.std.specs.List.{All}
 use Rattle.std.proofs.lemmas.List.Elements.{All-pop, All-push}
 use Rattle.join_board.specs.Handles.{knows}
-use Rattle.steal_runtime.specs.Seats.{Leaves, Sits, SomeOver}
+use Rattle.steal_runtime.specs.Inside.Seats.{Leaves, Sits, SomeOver}
 use Rattle.steal_runtime.proofs.Ends.{some_over}
 use Rattle.steal_runtime.proofs.run.gather.Goals as goal
 use Rattle.steal_runtime.proofs.run.gather.Goals.{then-over, else-over}

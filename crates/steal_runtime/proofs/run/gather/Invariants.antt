@@ -2,7 +2,7 @@ use Rattle.std.proofs.Common.{◌≡◌, ◌+◌, true, vec_len}
 use Rattle.std.specs.List.{All}
 use Rattle.join_board.specs.declared.owned.BoardSeat.{BoardSeat}
 use Rattle.steal_runtime.specs.declared.parts.Left.{Left}
-use Rattle.steal_runtime.specs.Seats.{Leaves, Sits, SomeOver}
+use Rattle.steal_runtime.specs.Inside.Seats.{Leaves, Sits, SomeOver}
 use Rattle.steal_runtime.proofs.run.gather.Given as goal
 
 abbrev pub invariant-loop-left : goal.invariant-loop-left

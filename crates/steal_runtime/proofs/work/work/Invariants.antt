@@ -1,5 +1,5 @@
 use Rattle.std.proofs.Common.{◌≡◌}
-use Rattle.steal_runtime.specs.Seats.{Sits}
+use Rattle.steal_runtime.specs.Inside.Seats.{Sits}
 use Rattle.steal_runtime.proofs.work.work.Given as goal
 
 abbrev pub invariant-loop : goal.invariant-loop

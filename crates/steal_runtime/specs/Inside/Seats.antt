@@ -4,7 +4,6 @@ use mathlib.Core.Option.{some}
 use lib.ListN.{get_elem?}
 use Rattle.type_rules.specs.Jobs.{WithInputs}
 use Rattle.core_steps.specs.Moves.{read_job}
-use Rattle.core_steps.specs.Steps.{Job}
 use Rattle.trace_book.specs.Segments.{SegmentFields}
 use Rattle.task_state.specs.declared.task.Task.{Task}
 use Rattle.join_board.specs.declared.owned.Board.{Board}
@@ -21,10 +20,6 @@ use Rattle.steal_runtime.specs.declared.parts.Left.{Left}
 
 abbrev pub about : Board → About
 about b = b.table.shared.key
-
--- the board is one of the job, for so many workers, with this quantum and this limit
-abbrev pub IsFor : Board → Job → ℕ → ℕ → ℕ → Type 0
-IsFor b job workers quantum limit = (the_job (about b) ≡ job) × ((about b).opened ≡ workers) × ((about b).quantum ≡ quantum) × ((about b).limit ≡ limit)
 
 -- a seat of the board that stands for itself alone
 abbrev pub Sits : Board → BoardSeat → Type 0

@@ -1,0 +1,6 @@
+use Rattle.core_steps.specs.Moves.{read_job}
+use Rattle.worked_boards.proofs.Sitting.{sits_on}
+use Rattle.worked_boards.proofs.seats.stopped.Goals as goal
+
+pub returns : goal.returns
+returns c = sits_on (read_job c.args._job.now) c.args.board.now c.args.seat.now c.stopped.new.seat c.requires c.stopped.ensures.seat.0 c.stopped.ensures.seat.1

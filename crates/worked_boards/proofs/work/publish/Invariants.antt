@@ -1,0 +1,10 @@
+use Rattle.std.proofs.Common.{◌≡◌}
+use Rattle.trace_book.specs.Segments.{read_segment}
+use Rattle.core_steps.specs.Moves.{read_job}
+use Rattle.join_board.specs.Calls.{SameSeat}
+use Rattle.join_board.specs.Handles.{knows}
+use Rattle.worked_boards.specs.Seats.{Sits}
+use Rattle.worked_boards.proofs.work.publish.Given as goal
+
+abbrev pub invariant-loop : goal.invariant-loop
+invariant-loop g l = Sits (read_job l.fn._job) l.fn.board l.seat × SameSeat (knows l.fn.seat) (knows l.seat) × (read_segment l.segment ≡ read_segment l.fn.segment)

@@ -1,0 +1,17 @@
+//! Worked cases of the board. They cross crates, so they stand in one of their own, which has nothing else.
+#![tactic(auto)]
+
+#[cfg(test)]
+mod calls;
+#[cfg(test)]
+mod crowd;
+#[cfg(test)]
+mod failed;
+#[cfg(test)]
+mod jobs;
+#[cfg(test)]
+mod seats;
+#[cfg(test)]
+mod words;
+#[cfg(test)]
+mod work;

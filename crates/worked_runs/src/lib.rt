@@ -1,0 +1,15 @@
+//! Worked runs of jobs on workers. They cross crates, so they stand in one of their own, which has nothing else.
+#![tactic(auto)]
+
+#[cfg(test)]
+mod count;
+#[cfg(test)]
+mod jobs;
+#[cfg(test)]
+mod lanes;
+#[cfg(test)]
+mod meets;
+#[cfg(test)]
+mod runs;
+#[cfg(test)]
+mod same;

@@ -7,13 +7,12 @@ use Rattle.priml_syntax.specs.Values.{Entry}
 use Rattle.priml_syntax.specs.declared.program.Program.{Program}
 use Rattle.type_rules.specs.Jobs.{WithInputs}
 use Rattle.core_steps.specs.Meaning.{meaning, Finished, Over}
-use Rattle.core_steps.specs.Moves.{read_job as the_job}
 use Rattle.core_steps.proofs.SameInputs.{meaning_reads_inputs}
 use Rattle.priml.specs.declared.refusal.Stop.{Stop}
 use Rattle.priml.specs.Chain.{◌⇒◌, Never, layer}
 use Rattle.priml.specs.Layers as the
 use Rattle.priml.specs.Lines.{steps_line}
-use Rattle.priml.specs.Prefixes.{IsChecked, NoRecords, IsRecorded}
+use Rattle.priml.specs.Prefixes.{IsChecked, NoRecords, IsReady, IsRecorded}
 use Rattle.priml.specs.Reply.{Stops, StopsAs}
 use Rattle.priml.specs.Runs.{Inputs, AreAlike, job_with}
 use Rattle.priml.proofs.Chains.{behind_program, stopped, stopped_behind}
@@ -28,16 +27,18 @@ module _ (p : Tree) (i j : Inputs) (alike : AreAlike i j) (most : ℕ) where
   ran_alike : (rs : List Entry) → meaning (job_with p i) most ≡ Finished rs → meaning (job_with p j) most ≡ Finished rs
   ran_alike rs = subst (λ m. m ≡ Finished rs) one_meaning
 
--- the records of the run of a checked program on the inputs that were read
-module _ (most : ℕ) (text : List ℕ) (s : Sections) (program : Program) (given : Inputs) (job : WithInputs) (is : job ≡ record { program = program; inputs = given })
-    (checked : IsChecked text s (read_program program)) (lists : Inputs) (read : (the.inputs s.inputs).makes lists) (alike : AreAlike given lists) where
-  pub ran : (rs : List Entry) → meaning (the_job job) most ≡ Finished rs → IsRecorded most text s (read_program job.program) rs
-  ran rs m =
-      subst (λ (j : WithInputs). meaning (the_job j) most ≡ Finished rs → IsRecorded most text s (read_program j.program) rs) (sym is)
-      (λ n. record { checked = checked; reads = lists; read = read; ran = ran_alike (read_program program) given lists alike most rs n }) m
+-- a checked program with what was read
+pub ready : (text : List ℕ) (s : Sections) (program : Program) (given : Inputs) (job : WithInputs) → job ≡ record { program = program; inputs = given } → IsChecked text s (read_program program)
+    → (lists : Inputs) → (the.inputs s.inputs).makes lists → AreAlike given lists → IsReady text s (read_program job.program) job.inputs
+ready text s program given job is checked lists read alike =
+    subst (λ (j : WithInputs). IsReady text s (read_program j.program) j.inputs) (sym is) (record { checked = checked; reads = lists; read = read; alike = alike })
 
-  pub not_ran : (e : Stop) → Stops (the.run (the_job job) most) e → StopsAs (NoRecords most text) e
+-- the records of the run of a checked program on lists like those that were read
+module _ (most : ℕ) (text : List ℕ) (s : Sections) (p : Tree) (given : Inputs) (is : IsReady text s p given) where
+  pub ran : (rs : List Entry) → meaning (job_with p given) most ≡ Finished rs → IsRecorded most text s p rs
+  ran rs m = record { checked = is.checked; reads = is.reads; read = is.read; ran = ran_alike p given is.reads is.alike most rs m }
+
+  pub not_ran : (e : Stop) → Stops (the.run (job_with p given) most) e → StopsAs (NoRecords most text) e
   not_ran e h =
-      let h' = subst (λ (j : WithInputs). Stops (the.run (the_job j) most) e) is h in
-      behind_program text (λ t p. the.inputs t.inputs ⇒ λ i. the.run (job_with p i) most ⇒ λ rs. Never) s (read_program program) e checked
-      (stopped_behind _ _ lists e read (stopped (the.run (job_with (read_program program) lists) most) (λ rs. Never) e (stops_alike (read_program program) given lists alike most e h')))
+      behind_program text (λ t q. the.inputs t.inputs ⇒ λ i. the.run (job_with q i) most ⇒ λ rs. Never) s p e is.checked
+      (stopped_behind _ _ is.reads e is.read (stopped (the.run (job_with p is.reads) most) (λ rs. Never) e (stops_alike p given is.reads is.alike most e h)))

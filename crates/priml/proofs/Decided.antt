@@ -1,5 +1,5 @@
 -- All words have an answer to each input: each layer makes something or has a fault.
-use Rattle.std.proofs.Common.{◌≡◌, ℕ, ◌*◌, ◌≤◌, ◌<◌, List, length, Result, Ok, Err, inl, inr, refl, arith}
+use Rattle.std.proofs.Common.{◌≡◌, ℕ, ◌*◌, ◌≤◌, ◌<◌, List, [], ◌++◌, length, Result, Ok, Err, inl, inr, refl, subst, arith}
 use Rattle.std.specs.Prelude.{◌⊎◌, ◌^◌}
 use Rattle.std.specs.List.{All}
 use Rattle.std.proofs.lemmas.Bool.{cases_lt}
@@ -16,7 +16,12 @@ use Rattle.priml_io.specs.declared.words.Command.TheVariants.{Check, Serial, Rep
 use Rattle.priml_io.specs.declared.words.WordsFault.{WordsFault}
 use Rattle.inputs_text.proofs.LinesDecided as inputs
 use Rattle.source_reader.specs.Laws.{IsDecided, stands, faulty}
+use Rattle.source_maker.specs.Text.{made_text}
+use Rattle.source_maker.specs.Tree.{made_tree}
+use Rattle.source_maker.proofs.Source.{made_source}
+use Rattle.source_reader.proofs.OneFault.{one_program}
 use Rattle.source_reader.proofs.EveryText.{every_text, source_laws}
+use Rattle.type_rules.specs.Stops.{IsOrderOf}
 use Rattle.type_rules.specs.Typable.{Typable, HasTypeFault}
 use Rattle.type_rules.specs.declared.TypeKind.{TypeKind}
 use Rattle.type_rules.proofs.TypesDecided.{each_decided}
@@ -24,6 +29,7 @@ use Rattle.core_steps.specs.Meaning.{Meaning, meaning, Finished, Over}
 use Rattle.core_steps.specs.Steps.{Job}
 use Rattle.priority_order.specs.Order.{Names}
 use Rattle.cost_graph.specs.Graph.{CostGraph, thread_total, vertex_total, IsVertexBelow}
+use Rattle.cost_graph.specs.Records.{parts_of, IsGraphOf}
 use Rattle.cost_graph.specs.Text.{graph_lines}
 use Rattle.prompt_checker.specs.Schedule.{IsPrompt}
 use Rattle.prompt_checker.specs.Text.{schedule_text}
@@ -38,16 +44,17 @@ use Rattle.prompt_planner.proofs.SomePlan.{canonical_some}
 use Rattle.response_report.specs.Response.{limit}
 use Rattle.response_report.proofs.SomeRows.{rows_some}
 use Rattle.priml.specs.Chain.{Answer}
-use Rattle.priml.specs.Commands.{WithProgram, WithRecords, WithGraph, Reports, Planned, Judged, Of}
+use Rattle.priml.specs.Commands.{WithProgram, WithRecords, WithGraph, Reports, Planned, Judged, Sampled, Of}
 use Rattle.priml.specs.Headline.{Are}
 use Rattle.priml.specs.Laws.{WordsAreAnswered}
 use Rattle.priml.specs.Layers as the
 use Rattle.priml.specs.Prefixes.{IsChecked, IsRecorded, IsGraphed, IsSound}
 use Rattle.priml.specs.Runs.{job_with}
-use Rattle.priml.specs.Texts.{ok_text, run_text, report_text}
+use Rattle.priml.specs.Texts.{ok_text, run_text, report_text, summary_text}
 use Rattle.priml.proofs.Layered.{Decides, IsSome, layer_decides}
-use Rattle.priml.proofs.Replied.{built_reads, in_range}
-use Rattle.priml.proofs.Sound.{has_graph, sound}
+use Rattle.priml.proofs.CutLines.{some_cut_lines}
+use Rattle.priml.proofs.Replied.{in_range}
+use Rattle.priml.proofs.Sound.{run_graph, sound_run, has_graph, sound}
 
 command_decides : (ws : List (List ℕ)) → Decides (the.command ws)
 command_decides ws = go (words.all_read ws) where
@@ -55,19 +62,19 @@ command_decides ws = go (words.all_read ws) where
   go (Ok c, h) = inl (c, h)
   go (Err f, h) = inr (f, h)
 
-built_decides : (c : Command) → Decides (the.built c)
-built_decides Check = inl (tt, tt)
-built_decides (Serial l) = inl (tt, tt)
-built_decides (Report c l) = inl (tt, tt)
-built_decides (Run w q c l) = inr (tt, λ b. b)
-built_decides (Trace w q l) = inr (tt, λ b. b)
-built_decides (Graph l) = inl (tt, tt)
-built_decides (Plan c l) = inl (tt, tt)
-built_decides (Judge c l) = inl (tt, tt)
-built_decides (Sample n w q c l) = inr (tt, λ b. b)
+long_or_short : (c : Command) (input : List ℕ) → the.ReadsInput c → Decides (the.short c input)
+long_or_short c input needs = elim (le_or_not (length input) the.input_limit) [ inl h ↦ inl (tt, λ _. h) | inr n ↦ inr (tt, (needs, (omega (arith, n)))) ]
 
-short_decides : (c : Command) (input : List ℕ) → the.ReadsInput c → Decides (the.short c input)
-short_decides c input needs = elim (le_or_not (length input) the.input_limit) [ inl h ↦ inl (tt, λ _. h) | inr n ↦ inr (tt, (needs, (omega (arith, n)))) ]
+short_decides : (c : Command) (input : List ℕ) → Decides (the.short c input)
+short_decides Check input = long_or_short Check input tt
+short_decides (Serial l) input = long_or_short (Serial l) input tt
+short_decides (Report c l) input = long_or_short (Report c l) input tt
+short_decides (Run w q c l) input = long_or_short (Run w q c l) input tt
+short_decides (Trace w q l) input = long_or_short (Trace w q l) input tt
+short_decides (Graph l) input = long_or_short (Graph l) input tt
+short_decides (Plan c l) input = long_or_short (Plan c l) input tt
+short_decides (Judge c l) input = long_or_short (Judge c l) input tt
+short_decides (Sample n w q c l) input = inl (tt, λ reads. absurd reads)
 
 source_decides : (text : List ℕ) → Decides (the.source text)
 source_decides text = go (every_text text) where
@@ -122,23 +129,17 @@ graph_decides most few input rest next =
     next s p rs g (record { recorded = is; made = made })
 
 -- the layers behind a cost graph
-module _ (most : ℕ) (input : List ℕ) (s : Sections) (p : Tree) (rs : List Entry) (g : CostGraph) (is : IsGraphed most input s p rs g) (cores : ℕ) where
-  abbrev own : Names
-  own = record { names = p.names; pairs = pairs_of p }
-
-  fit : IsSound g own
-  fit = sound most input s p rs is.recorded g is.made own (record { names = refl; pairs = refl })
-
-  typable : Typable p
-  typable = is.recorded.checked.typable
+module _ (rs : List Entry) (g : CostGraph) (made : IsGraphOf (parts_of rs) g) (p : Tree) (typable : Typable p) (sound : (o : Names) → IsOrderOf p o → IsSound g o) (cores : ℕ) where
+  fit : IsSound g (record { names = p.names; pairs = pairs_of p })
+  fit = sound (record { names = p.names; pairs = pairs_of p }) (record { names = refl; pairs = refl })
 
   plan_decides : 1 ≤ cores → Decides (the.plan (pairs_of p) (length p.names) g cores)
   plan_decides one =
-      let steps = canonical_some g (pairs_of p) (length p.names) cores is.made.kept typable.lawful fit.priorities one in
-      inl (steps.0, (steps.1, canonical_prompt g (pairs_of p) (length p.names) cores steps.0 is.made.kept fit.acyclic steps.1))
+      let steps = canonical_some g (pairs_of p) (length p.names) cores made.kept typable.lawful fit.priorities one in
+      inl (steps.0, (steps.1, canonical_prompt g (pairs_of p) (length p.names) cores steps.0 made.kept fit.acyclic steps.1))
 
   rows_decide : (steps : List (List ℕ)) → IsPrompt g (IsVertexBelow g (pairs_of p)) cores steps → Decides (the.rows (pairs_of p) g cores steps)
-  rows_decide steps prompt = inl (rows_some g (pairs_of p) cores steps is.made.kept typable.lawful fit.well_formed prompt)
+  rows_decide steps prompt = inl (rows_some g (pairs_of p) cores steps made.kept typable.lawful fit.well_formed prompt)
 
   reports_decide : (steps : List (List ℕ)) → IsPrompt g (IsVertexBelow g (pairs_of p)) cores steps → IsSome (Reports p rs g cores steps)
   reports_decide steps prompt =
@@ -146,39 +147,60 @@ module _ (most : ℕ) (input : List ℕ) (s : Sections) (p : Tree) (rs : List En
       layer_decides _ _ (rows_decide steps prompt) λ found _.
       (0, report_text p rs g cores steps found, (refl, refl))
 
+module _ (most : ℕ) (input : List ℕ) (s : Sections) (p : Tree) (rs : List Entry) (g : CostGraph) (is : IsGraphed most input s p rs g) (cores : ℕ) where
+  graph_plans : 1 ≤ cores → Decides (the.plan (pairs_of p) (length p.names) g cores)
+  graph_plans = plan_decides rs g is.made p is.recorded.checked.typable (sound most input s p rs is.recorded g is.made) cores
+
+  graph_reports : (steps : List (List ℕ)) → IsPrompt g (IsVertexBelow g (pairs_of p)) cores steps → IsSome (Reports p rs g cores steps)
+  graph_reports = reports_decide rs g is.made p is.recorded.checked.typable (sound most input s p rs is.recorded g is.made) cores
+
 plan_answered : (cores most : ℕ) (input : List ℕ) → 1 ≤ cores → most < 2 ^ 32 → IsSome (Of (Plan cores most) input)
 plan_answered cores most input one few =
     graph_decides most few input _ λ s p rs g is.
-    layer_decides _ _ (plan_decides most input s p rs g is cores one) λ steps _.
+    layer_decides _ _ (graph_plans most input s p rs g is cores one) λ steps _.
     (0, schedule_text g steps, (refl, refl))
 
 planned_answered : (cores most : ℕ) (input : List ℕ) → 1 ≤ cores → most < 2 ^ 32 → IsSome (Planned cores most input)
 planned_answered cores most input one few =
     graph_decides most few input _ λ s p rs g is.
-    layer_decides _ _ (plan_decides most input s p rs g is cores one) λ steps made.
-    reports_decide most input s p rs g is cores steps made.1
+    layer_decides _ _ (graph_plans most input s p rs g is cores one) λ steps made.
+    graph_reports most input s p rs g is cores steps made.1
 
 judged_answered : (cores most : ℕ) (input : List ℕ) → most < 2 ^ 32 → IsSome (Judged cores most input)
 judged_answered cores most input few =
     graph_decides most few input _ λ s p rs g is.
     layer_decides _ _ (schedules.all_read g (lines s.schedule)) λ steps read.
     layer_decides _ _ (prompt_decides (pairs_of p) g cores steps (steps-below g is.made.kept (lines s.schedule) steps read)) λ _ prompt.
-    reports_decide most input s p rs g is cores steps prompt
+    graph_reports most input s p rs g is cores steps prompt
+
+trace_answered : (w q l : ℕ) (input : List ℕ) → 1 ≤ w → 1 ≤ q → IsSome (Of (Trace w q l) input)
+trace_answered w q l input worker step =
+    records_decide l input _ λ s p rs _.
+    let cuts = some_cut_lines w q worker step rs in
+    (0, run_text p rs ++ cuts.0, (refl, (cuts.0, cuts.1, refl)))
+
+sampled_answered : (n c l : ℕ) → n ≤ 5000 → 1 ≤ c → l < 2 ^ 32 → IsSome (Sampled n c l)
+sampled_answered n c l few one most = let source = made_source n few in
+    layer_decides _ _ (inl (made_tree n, source.stands)) λ p stands.
+    let typable : Typable p = subst Typable (one_program (made_text n) (made_tree n) p source.stands stands) source.typable in
+    layer_decides _ _ (run_decides (job_with p []) l) λ rs ran.
+    layer_decides _ _ (inl (run_graph (made_text n) p [] stands typable l rs ran most)) λ g made.
+    layer_decides _ _ (plan_decides rs g made p typable (sound_run (made_text n) p [] stands typable l rs ran g made) c one) λ steps _.
+    (0, summary_text n rs steps, (refl, refl))
 
 of_decides : (words : List (List ℕ)) (c : Command) (input : List ℕ) → Are words c → IsSome (Of c input)
 of_decides words Check input right = program_decides input _ λ s p _. (0, ok_text, (refl, refl))
 of_decides words (Serial l) input right = records_decide l input _ λ s p rs _. (0, run_text p rs, (refl, refl))
-of_decides words (Graph l) input right = graph_decides l (in_range words (Graph l) right.0) input _ λ s p rs g _. (0, graph_lines g p.names, (refl, refl))
-of_decides words (Plan c l) input right = let n = in_range words (Plan c l) right.0 in plan_answered c l input n.0 n.1
-of_decides words (Report c l) input right = let n = in_range words (Report c l) right.0 in planned_answered c l input n.0 n.2
-of_decides words (Judge c l) input right = let n = in_range words (Judge c l) right.0 in judged_answered c l input n.2
-of_decides words (Run w q c l) input right = absurd right.1
-of_decides words (Trace w q l) input right = absurd right.1
-of_decides words (Sample n w q c l) input right = absurd right.1
+of_decides words (Graph l) input right = graph_decides l (in_range words (Graph l) right) input _ λ s p rs g _. (0, graph_lines g p.names, (refl, refl))
+of_decides words (Plan c l) input right = let n = in_range words (Plan c l) right in plan_answered c l input n.0 n.1
+of_decides words (Report c l) input right = let n = in_range words (Report c l) right in planned_answered c l input n.0 n.2
+of_decides words (Judge c l) input right = let n = in_range words (Judge c l) right in judged_answered c l input n.2
+of_decides words (Run w q c l) input right = let n = in_range words (Run w q c l) right in planned_answered c l input n.0 n.2.3
+of_decides words (Trace w q l) input right = let n = in_range words (Trace w q l) right in trace_answered w q l input n.0 n.2
+of_decides words (Sample n w q c l) input right = let m = in_range words (Sample n w q c l) right in sampled_answered n c l m.1 m.2 m.3.3
 
 pub words_answered : WordsAreAnswered
 words_answered ws input =
     layer_decides _ _ (command_decides ws) λ c reads.
-    layer_decides _ _ (built_decides c) λ _ b.
-    layer_decides _ _ (short_decides c input (built_reads c b)) λ _ _.
-    of_decides ws c input (reads, b)
+    layer_decides _ _ (short_decides c input) λ _ _.
+    of_decides ws c input reads

@@ -1,5 +1,5 @@
 -- A flaw names vertices of the graph.
-use Rattle.std.proofs.Common.{◌≡◌, ℕ, ◌<◌, List, [], length, get_or, subst}
+use Rattle.std.proofs.Common.{ℕ, ◌<◌, List, [], length, subst}
 use Rattle.std.specs.List.{All}
 use Rattle.cost_graph.specs.Graph.{CostGraph, vertex_total}
 use Rattle.prompt_checker.specs.Schedule.{step_at}

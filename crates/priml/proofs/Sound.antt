@@ -23,6 +23,7 @@ use Rattle.cost_graph.specs.Records.{parts_of, thread_of, IsGraphOf}
 use Rattle.cost_graph.proofs.Carried.{same_acyclic, same_well_formed}
 use Rattle.cost_graph.proofs.Parts.{AreApart, apart_of}
 use Rattle.cost_graph.proofs.SomeGraph as graphs
+use Rattle.priml.specs.Layers as the
 use Rattle.priml.specs.Prefixes.{IsRecorded, IsSound}
 use Rattle.priml.specs.Runs.{Inputs, job_with}
 
@@ -34,34 +35,43 @@ declared : (n : ℕ) (rs : List Entry) → Each (λ r. r.prio < n) rs → AllByR
 declared n [] h = tt
 declared n (r ∷ rs) h = (h.0, declared n rs h.1)
 
-module _ (most : ℕ) (input : List ℕ) (s : Sections) (p : Tree) (rs : List Entry) (is : IsRecorded most input s p rs) where
+-- the records of a run of a program that stands for a text and is typable
+module _ (source : List ℕ) (p : Tree) (reads : Inputs) (stands : Stands source p) (typable : Typable p) (most : ℕ) (rs : List Entry) (ran : (the.run (job_with p reads) most).makes rs) where
   abbrev job : Job
-  job = job_with p is.reads
+  job = job_with p reads
 
   checked : laws.IsChecked job
-  checked = checked_job s.program p is.reads is.checked.stands is.checked.typable
+  checked = checked_job source p reads stands typable
 
   in_order : InPathOrder rs
-  in_order = (finished_is_complete job rs most is.ran).1
+  in_order = (finished_is_complete job rs most ran).1
 
-  pub has_graph : most < 2 ^ 32 → (g : CostGraph) × IsGraphOf (parts_of rs) g
-  has_graph few = graphs.some_graph rs in_order (finished_below job checked most rs is.ran few)
+  pub run_graph : most < 2 ^ 32 → (g : CostGraph) × IsGraphOf (parts_of rs) g
+  run_graph few = graphs.some_graph rs in_order (finished_below job checked most rs ran few)
 
   module _ (g : CostGraph) (made : IsGraphOf (parts_of rs) g) where
     apart : AreApart (parts_of rs)
     apart = apart_of rs in_order
 
     has : laws.HasGraph job rs
-    has = (checked_laws job checked).graphs.meant rs most is.ran
+    has = (checked_laws job checked).graphs.meant rs most ran
 
     small : All (λ (t : Thread). t.priority < length p.names) g.threads
     small =
-        let each = declared (length p.names) rs ((checked_laws job checked).prios.meant rs most is.ran) in
+        let each = declared (length p.names) rs ((checked_laws job checked).prios.meant rs most ran) in
         subst (All (λ (t : Thread). t.priority < length p.names)) (sym made.threads) (All-from_recursion (λ (t : Thread). t.priority < length p.names) (map thread_of (parts_of rs)) each)
 
-    pub sound : (o : Names) → IsOrderOf p o → IsSound g o
-    sound o of = record {
+    pub sound_run : (o : Names) → IsOrderOf p o → IsSound g o
+    sound_run o of = record {
       acyclic = (same_acyclic (parts_of rs) apart g made).0 has.acyclic;
       well_formed = subst (IsWellFormed g) (sym of.pairs) ((same_well_formed (parts_of rs) apart g made (pairs_of p)).0 has.well_formed);
       priorities = subst (λ names. All (λ (t : Thread). t.priority < length names) g.threads) (sym of.names) small;
     }
+
+-- those of the program of an input
+module _ (most : ℕ) (input : List ℕ) (s : Sections) (p : Tree) (rs : List Entry) (is : IsRecorded most input s p rs) where
+  pub has_graph : most < 2 ^ 32 → (g : CostGraph) × IsGraphOf (parts_of rs) g
+  has_graph few = run_graph s.program p is.reads is.checked.stands is.checked.typable most rs is.ran few
+
+  pub sound : (g : CostGraph) → IsGraphOf (parts_of rs) g → (o : Names) → IsOrderOf p o → IsSound g o
+  sound g made = sound_run s.program p is.reads is.checked.stands is.checked.typable most rs is.ran g made

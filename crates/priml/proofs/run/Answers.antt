@@ -17,9 +17,9 @@ returns-clause-memory g c =
     elim c.match-words.branch [
       | in-Ok w ↦ if_ok _ c.args.words _ w.in-Ok.is
       | in-Err w ↦
-          let status : w.no_memory.result ≡ exit_status c.from.result = search rules in
+          let status : w.no_memory-status.result ≡ exit_status c.from.result = search rules in
           if_err _ c.args.words _ w.in-Err.is (λ k.
           subst (λ s. Wrote (sink_run (g.K.Sink.written c.args.sink.now) (g.K.Sink.written s) (g.K.Sink.faults c.args.sink.now) (g.K.Sink.faults s)) 10 memory_line (exit_status c.from.result))
-          (sym w.sink-is) (subst (Wrote _ 10 memory_line) status w.no_memory.ensures))
+          (sym w.sink-is) (subst (Wrote _ 10 memory_line) status w.no_memory-status.ensures))
       | in-Err-2 w ↦ if_err _ c.args.words _ w.in-Err.is (λ k. search rules)
     ]

@@ -1,5 +1,6 @@
 use Rattle.std.proofs.Common.{subst, sym}
 use Rattle.priml.specs.Commands.{Of}
+use Rattle.priml.specs.Layers.{UsesWorkers}
 use Rattle.priml.specs.Reply.{IsInRange, Replies}
 use Rattle.priml.proofs.answer.answer.Goals as goal
 
@@ -47,3 +48,6 @@ judge-requires-clause-most c = (subst IsInRange c.in-Judge.is c.requires.range).
 
 pub returns-in-Judge : goal.returns-in-Judge
 returns-in-Judge c = subst (λ d. Replies (Of d c.args.input.now) c.judge.result) (sym c.in-Judge.is) c.judge.ensures
+
+pub unreachable-requires : goal.unreachable-requires
+unreachable-requires c = c.requires.still (subst UsesWorkers (sym c.in-Run.is) tt)

@@ -1,9 +1,6 @@
 use Rattle.std.specs.Prelude.{◌++◌, codes}
 use Rattle.std.specs.Fmt.{decimal}
-use Rattle.std.specs.List.{flat_map}
-use Rattle.cost_graph.specs.Text.{vertex_text}
-use Rattle.priml_syntax.specs.Text.{dotted, path_text}
-use Rattle.priml.specs.Lines.{line, at_vertex, flaw_text}
+use Rattle.priml_syntax.specs.Text.{path_text}
 use Rattle.priml.proofs.Pieces.{writes-joined, first_failed}
 use Rattle.priml.proofs.flaw.write_name.Goals as goal
 

@@ -1,5 +1,5 @@
 use Rattle.std.proofs.Common.{append_assoc, ap, subst, sym, ◌∙◌}
-use Rattle.std.specs.Prelude.{◌≡◌, ◌++◌, List, ℕ, codes}
+use Rattle.std.specs.Prelude.{◌≡◌, ◌++◌, codes}
 use Rattle.std.specs.Fmt.{decimal}
 use Rattle.priml_syntax.specs.Text.{path_text}
 use Rattle.cost_graph.specs.Text.{name_text, vertex_text}

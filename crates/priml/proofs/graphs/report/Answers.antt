@@ -1,4 +1,4 @@
-use Rattle.std.specs.Prelude.{◌≡◌, ◌++◌, List, length, map, IfOk}
+use Rattle.std.specs.Prelude.{◌≡◌, ◌++◌, length, map, IfOk}
 use Rattle.priml_syntax.specs.Read.{read_record}
 use Rattle.serial_meaning.specs.RunText.{run_lines}
 use Rattle.response_report.specs.Response.{AreRows}
@@ -19,4 +19,4 @@ returns c = λ p is.
     let rs = map read_record c.args.records.now in
     let rows = over p _ is (λ names pairs. AreRows c.args.graph.now pairs c.args.cores steps c.in_ok-rows.rows.items) c.in_ok-rows.ensures.rows in
     let text = over p _ is (λ names pairs. IfOk c.report_text.result (λ v. v.items ≡ run_lines names rs ++ response_lines c.args.graph.now names c.args.cores (length steps) c.in_ok-rows.rows.items)) (rw c.deref.ensures.value at c.report_text.ensures) in
-    passed (the.small c.args.graph.now) _ tt _ c.in_ok-rows.ensures.small (passed _ _ c.in_ok-rows.rows.items _ rows (c.done.ensures _ text))
+    passed (the.small c.args.graph.now) _ tt _ c.in_ok-rows.ensures.small (passed _ _ c.in_ok-rows.rows.items _ rows (c.done.ensures.says _ text))

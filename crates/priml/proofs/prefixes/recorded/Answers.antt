@@ -1,22 +1,15 @@
 use Rattle.priml.specs.Prefixes.{NoRecords}
-use Rattle.priml.proofs.Chains.{handed_on, before_program, behind_program, stopped}
 use Rattle.priml.proofs.Alike.{ran, not_ran}
+use Rattle.priml.proofs.Chains.{handed_on, before_run}
 use Rattle.priml.proofs.prefixes.recorded.Goals as goal
 
 pub returns-in_err-sections-clause-refused : goal.returns-in_err-sections-clause-refused
 returns-in_err-sections-clause-refused c =
-    handed_on (NoRecords c.args.most c.args.input.now) _ _ c.from_residual.ensures.1 (before_program _ _ _ c.in_err-sections.ensures.refused)
-
-pub returns-in_err-inputs-clause-refused : goal.returns-in_err-inputs-clause-refused
-returns-in_err-inputs-clause-refused c =
-    handed_on (NoRecords c.args.most c.args.input.now) _ _ c.from_residual-in_err-inputs.ensures.1 (behind_program _ _ _ _ _ c.in_ok-sections.ensures.ok (stopped _ _ _ c.in_err-inputs.ensures))
+    handed_on (NoRecords c.args.most c.args.input.now) _ _ c.from_residual.ensures.1 (before_run _ _ _ c.in_err-sections.ensures.refused)
 
 pub returns-in_err-records-clause-refused : goal.returns-in_err-records-clause-refused
 returns-in_err-records-clause-refused c =
-    let x = c.in_ok-inputs.ensures in
-    handed_on (NoRecords c.args.most c.args.input.now) _ _ c.from_residual-in_err-records.ensures.1 (not_ran _ _ _ _ _ _ c.new-job.ensures c.in_ok-sections.ensures.ok x.0 x.1 x.2 _ c.in_err-records.ensures.records)
+    handed_on (NoRecords c.args.most c.args.input.now) _ _ c.from_residual-in_err-records.ensures.1 (not_ran _ _ _ _ _ c.in_ok-sections.ensures.ok _ c.in_err-records.ensures.records)
 
 pub returns-clause-ok : goal.returns-clause-ok
-returns-clause-ok c =
-    let x = c.in_ok-inputs.ensures in
-    ran _ _ _ _ _ _ c.new-job.ensures c.in_ok-sections.ensures.ok x.0 x.1 x.2 _ c.in_ok-records.ensures.records
+returns-clause-ok c = ran _ _ _ _ _ c.in_ok-sections.ensures.ok _ c.in_ok-records.ensures.records

@@ -13,4 +13,4 @@ graph_text-text-requires c = (c.in_ok-job.ensures.sound _ c.order.ensures).prior
 pub returns : goal.returns
 returns c =
     let text = over _ _ c.order.ensures (λ names pairs. IfOk c.graph_text-text.result (λ v. v.items ≡ graph_lines c.in_ok-job.graph names)) c.graph_text-text.ensures in
-    graphed _ _ _ _ _ _ _ _ c.in_ok-job.ensures.ok (c.done.ensures _ text)
+    graphed _ _ _ _ _ _ _ _ c.in_ok-job.ensures.ok (c.done.ensures.says _ text)

@@ -1,5 +1,5 @@
 use Rattle.std.proofs.Common.{sym, subst}
-use Rattle.std.specs.Prelude.{◌≡◌, ℕ, List, length, map, IfOk}
+use Rattle.std.specs.Prelude.{ℕ, List, map}
 use Rattle.priml_syntax.specs.Read.{read_program, read_record}
 use Rattle.priml_syntax.specs.Tree.{Tree, pairs_of}
 use Rattle.priml_syntax.specs.Values.{Entry}

@@ -1,4 +1,4 @@
-use Rattle.std.specs.Prelude.{◌≡◌, ℕ, List, length, IfOk}
+use Rattle.std.specs.Prelude.{ℕ, List, length}
 use Rattle.priml_io.specs.Sections.{Sections}
 use Rattle.priml_syntax.specs.Tree.{Tree, pairs_of}
 use Rattle.priml_syntax.specs.Values.{Entry}
@@ -30,4 +30,4 @@ returns-in_err-schedule c =
 pub returns : goal.returns
 returns c =
     let h = over _ _ c.order-order.ensures (λ names pairs. (the.plan pairs (length names) c.in_ok-job.graph c.args.cores).makes (steps_of c.in_ok-schedule.schedule)) c.in_ok-schedule.ensures.plan in
-    graphed _ _ (rest c.args.cores) _ _ _ _ _ c.in_ok-job.ensures.ok (passed _ _ (steps_of c.in_ok-schedule.schedule) _ h (c.done.ensures _ c.plan_text-text.ensures))
+    graphed _ _ (rest c.args.cores) _ _ _ _ _ c.in_ok-job.ensures.ok (passed _ _ (steps_of c.in_ok-schedule.schedule) _ h (c.done.ensures.says _ c.plan_text-text.ensures))

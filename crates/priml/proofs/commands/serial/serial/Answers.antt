@@ -11,4 +11,4 @@ returns-in_err-job c = unrecorded _ _ _ _ _ c.from_residual.ensures.1 c.in_err-j
 pub returns : goal.returns
 returns c =
     let text = over _ _ c.order.ensures (λ names pairs. IfOk c.run_text-text.result (λ v. v.items ≡ run_lines names (map read_record c.in_ok-job.records))) c.run_text-text.ensures in
-    recorded _ _ _ _ _ _ _ c.in_ok-job.ensures.ok (c.done.ensures _ text)
+    recorded _ _ _ _ _ _ _ c.in_ok-job.ensures.ok (c.done.ensures.says _ text)

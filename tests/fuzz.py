@@ -1,12 +1,13 @@
 #!/usr/bin/env python3
 """Compares the program with tests/model.py on random words and inputs.
 
-    fuzz.py [PROGRAM] [--cases N] [--seed S] [--commands LIST]
+    fuzz.py [PROGRAM] [--cases N] [--runs N] [--seed S] [--commands LIST] [--any-cuts]
 
-The commands, as `check,serial`, are by default those that the program answers; one that it answers with `words: not built`
-is left out, with a line. Prints how often each answer was hit, and each difference, which is written to a temporary
-folder as a case that `conform PROGRAM --file CASE` runs again. The exit status is 1 where there is a difference, or
-where in 2,000 cases or more an answer was never hit. A seed gives the same cases for the same commands each time.
+The commands, as `check,serial`, are by default all. Behind the cases come the runs: `run` on random programs with a random number of workers
+and random turns has to give the status and the bytes that `report` gives. Prints how often each answer was hit, and each difference, which is written
+to a temporary folder as a case that `conform PROGRAM --file CASE` runs again. The exit status is 1 where there is a difference, or
+where in 2,000 cases or 300 runs or more an answer was never hit. A seed gives the same cases for the same commands each time.
+With --any-cuts the cuts of a trace may end elsewhere than this program's do.
 """
 import argparse
 import collections
@@ -147,9 +148,10 @@ class Cases:
     """Random cases of these commands. Half of them are of `check`, where others are built too."""
 
     def __init__(self, seed, commands):
-        self.r, self.runs = random.Random(seed), commands - {b"check"}
-        self.kinds = {**fuzz_runs.GENERATORS, **(fuzz_runs.JUDGED if b"judge" in commands else {})}
-        self.share = 0 if not self.runs else 0.5 if b"check" in commands else 1
+        self.r, self.runs = random.Random(seed), commands - {b"check", b"sample"}
+        self.kinds = {**(fuzz_runs.GENERATORS if self.runs else {}), **(fuzz_runs.JUDGED if b"judge" in commands else {}),
+                      **(fuzz_runs.SAMPLED if b"sample" in commands else {})}
+        self.share = 0 if not self.kinds else 0.5 if b"check" in commands else 1
 
     def next(self):
         r = self.r
@@ -172,8 +174,8 @@ def expected(commands):
     texts = ["2 words: " + kind for kind in "no command, unknown command, wrong count, bad number, out of range".split(", ")]
     check = ["0", "5 section: unknown", "5 section: twice", "7 limit: input"]
     check += ["3 source: " + kind for kind in model_text.TOKEN_FAULTS + model_text.NAME_FAULTS] + ["4 type: " + kind for kind in model_types.TYPE_FAULTS]
-    found = {b"any": texts, **{command: fuzz_runs.answers(command) for command in sorted(commands)}}
-    return {**found, **({b"check": check} if b"check" in commands else {})}
+    found = {command: fuzz_runs.answers(command) for command in sorted(commands)}
+    return {b"any": texts, **found, b"check": check} if b"check" in commands else found
 
 
 def answer_of(program, given, data):
@@ -184,25 +186,23 @@ def answer_of(program, given, data):
         return "no answer within 60 seconds"
 
 
-def built(program, asked):
-    """Those of these commands that the program answers."""
-    found = set()
-    for command in asked:
-        letters = model.COMMANDS[command]
-        if answer_of(program, [command] + [b"1"] * len(letters), b"")[1] == b"words: not built\n":
-            print("left out: %s is not built" % command.decode())
-        else:
-            found.add(command)
-    return found
+class Differences:
+    """Shows each difference, and writes it as a case of tests/cases to a folder that is made for the first one."""
 
+    def __init__(self):
+        self.count, self.folder = 0, None
 
-def write_case(folder, name, given, data, status, output):
-    """Writes a case as those of tests/cases, and gives its file."""
-    path = os.path.join(folder, name + ".json")
-    with open(path, "w") as file:
-        json.dump([{"name": name, "words": [os.fsdecode(word) for word in given], "stdin": data.decode("latin-1"), "latin1": True,
-                    "stdout": output.decode(), "status": status}], file)
-    return path
+    def add(self, name, kind, given, data, wanted, got):
+        self.count += 1
+        self.folder = self.folder or tempfile.mkdtemp(prefix="priml-fuzz-")
+        path = os.path.join(self.folder, name + ".json")
+        status, output = wanted[0], wanted[1].decode()
+        is_trace = given[:1] == [b"trace"] and status == 0
+        told = {"run_text": output[:output.index("cut ")]} if is_trace else {"stdout": output}
+        with open(path, "w") as file:
+            json.dump([{"name": name, "words": [os.fsdecode(word) for word in given], "stdin": data.decode("latin-1"), "latin1": True,
+                        "status": status, **told}], file)
+        print("DIFFERENCE in %s (%s), words %s, written to %s\n  wanted  %s\n  program %s" % (name, kind, given, path, wanted, got))
 
 
 def show(hits, commands):
@@ -219,42 +219,61 @@ def show(hits, commands):
     return missing
 
 
-def main():
-    parser = argparse.ArgumentParser(description="Compares the program with tests/model.py on random cases.")
-    parser.add_argument("program", nargs="?", default=os.path.join(HERE, "..", "crates", "priml", "out", "priml"))
-    parser.add_argument("--cases", type=int, default=2000)
-    parser.add_argument("--seed", type=int, default=1)
-    parser.add_argument("--commands", help="with commas between; those that the model answers by default")
-    args = parser.parse_args()
-    program, folder, differences = os.path.abspath(args.program), None, 0
-    if not os.path.exists(program):
-        sys.exit("there is no program " + program)
-    answered = built(program, model.BUILT)
-    commands = set(args.commands.encode().split(b",")) if args.commands else answered
-    if not commands <= answered:
-        sys.exit("not built: %s" % b",".join(sorted(commands - answered)).decode())
+def compare(program, args, commands, found):
+    """Random cases against the model. Gives the answers that were never hit."""
     cases, hits, outcomes = Cases(args.seed, commands), collections.Counter(), collections.Counter()
     for number in range(1, args.cases + 1):
         generator, (given, data) = cases.next()
-        status, output = model.answer(given, data, answered)
+        status, output = model.answer(given, data)
         hits[given[0] if status != 2 else b"any", kind_of(status, output)] += 1
         outcomes += fuzz_runs.outcomes(output) if status == 0 and given[0] != b"graph" else {}
         got = answer_of(program, given, data)
-        if got != (status, output, b""):
-            differences += 1
-            folder = folder or tempfile.mkdtemp(prefix="priml-fuzz-")
-            case = write_case(folder, "case-%d" % number, given, data, status, output)
-            print("DIFFERENCE in case %d (%s), words %s, written to %s\n  model   %s\n  program %s" % (
-                number, generator, given, case, (status, output, b""), got))
+        if not model.agrees(given, (status, output, b""), got, args.any_cuts):
+            found.add("case-%d" % number, generator, given, data, (status, output, b""), got)
     missing = show(hits, commands)
     for outcome in ["value", "fault overflow", "fault zero", "fault depth"] if commands & {b"serial", b"report", b"judge"} else []:
         print("%7d threads end in %s" % (outcomes[outcome], outcome))
         missing += [] if outcomes[outcome] else [outcome]
-    missing = missing if args.cases >= 2000 else []
+    return missing if args.cases >= 2000 else []
+
+
+def compare_runs(program, args, found):
+    """Random runs on workers against the program's own reports. Gives the answers that were never hit."""
+    r, hits = random.Random("runs %d" % args.seed), collections.Counter()
+    for number in range(1, args.runs + 1):
+        given, data = fuzz_runs.of_workers(r)
+        wanted, got = answer_of(program, [b"report"] + given[3:], data), answer_of(program, given, data)
+        hits["run  " + kind_of(*wanted[:2])] += 1
+        hits["threads"] += wanted[1].count(b"\nthread ") + 1 if wanted[0] == 0 else 0
+        if got != wanted:
+            found.add("run-%d" % number, "run on workers", given, data, wanted, got)
+    for hit in sorted(set(hits) | {"run  0", "run  7 limit: steps"}):
+        print("%7d %s on workers" % (hits[hit], hit))
+    return [hit for hit in ("run  0", "run  7 limit: steps") if args.runs >= 300 and not hits[hit]]
+
+
+def main():
+    parser = argparse.ArgumentParser(description="Compares the program with tests/model.py on random cases.")
+    parser.add_argument("program", nargs="?", default=os.path.join(HERE, "..", "crates", "priml", "out", "priml"))
+    parser.add_argument("--cases", type=int, default=2000)
+    parser.add_argument("--runs", type=int, default=300, help="runs on workers against reports")
+    parser.add_argument("--seed", type=int, default=1)
+    parser.add_argument("--commands", help="with commas between; all by default")
+    parser.add_argument("--any-cuts", action="store_true", help="for another program, whose cuts may end anywhere")
+    args = parser.parse_args()
+    program, found = os.path.abspath(args.program), Differences()
+    if not os.path.exists(program):
+        sys.exit("there is no program " + program)
+    commands = set(args.commands.encode().split(b",") if args.commands else model.COMMANDS)
+    if not commands <= set(model.COMMANDS):
+        sys.exit("no commands: %s" % b",".join(sorted(commands - set(model.COMMANDS))).decode())
+    missing = compare(program, args, commands, found) if args.cases else []
+    args.runs = args.runs if commands >= {b"run", b"report"} else 0
+    missing += compare_runs(program, args, found) if args.runs else []
     for answer in missing:
         print("NEVER HIT: " + answer)
-    print("%d cases, %d differences" % (args.cases, differences))
-    return 1 if differences or missing else 0
+    print("%d cases, %d runs on workers, %d differences" % (args.cases, args.runs, found.count))
+    return 1 if found.count or missing else 0
 
 
 if __name__ == "__main__":

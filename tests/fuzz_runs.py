@@ -1,6 +1,6 @@
 """Random words and inputs for the commands that run a program, for tests/fuzz.py: programs that mostly end, with inputs; limits
-at the work; inputs that are wrong; and for `judge` schedules that are prompt, that have a flaw, that are changed, or no text
-of one. A case is a list of words and an input, both bytes."""
+at the work; inputs that are wrong; for `judge` schedules that are prompt, that have a flaw, that are changed, or no text
+of one; and samples. A case is a list of words and an input, both bytes."""
 import collections
 
 import model
@@ -13,9 +13,13 @@ from model_types import is_at_most, typed_program
 
 
 # ---------------------------------------------------------------- words
-def words(r, command, limits):
-    cores = b"%d" % r.choice([1, 1, 1, 2, 2, 2, 3, 3, 4, 5, 8, 16, 1023, 1024])
-    return [command] + [cores] * (command not in (b"serial", b"graph")) + [b"%d" % max(1, min(100000, r.choice(limits)))]
+FEW = {"P": [1, 1, 1, 2, 2, 2, 3, 3, 4, 5, 8, 16, 1023, 1024], "W": [1, 2, 2, 3, 4, 4, 5, 8, 15, 16],
+       "Q": [1, 1, 1, 2, 2, 3, 4, 5, 7, 16, 64, 64, 999, 1000]}
+
+
+def words(r, command, limits, sample=1):
+    few = {**FEW, "L": [max(1, min(100000, r.choice(limits)))], "N": [sample]}
+    return [command] + [b"%d" % r.choice(few[letter]) for letter in model.COMMANDS[command]]
 
 
 def any_command(r, commands):
@@ -193,7 +197,7 @@ def large(r, commands):
     data = ("priority bg; priority ui; order bg < ui; proc leaf(k : int) at bg : int { u <- output (k * k); ret (k % 7) } proc chain(k : int) at bg : int { if (k < 1) "
             "{ ret 0 } else { h <- spawn[bg] { x <- call leaf(k); ret x }; r <- call chain((k - 1)); v <- sync h; ret (r + v) } } "
             "main at ui : int { h <- spawn[bg] { x <- call chain(N); ret x }; u <- output N; ret N }\n".replace("N", str(n))).encode()
-    command = r.choice(sorted(commands & {b"report", b"judge"}) * 2 + [b"judge"] * (b"judge" in commands) or sorted(commands))
+    command = r.choice(sorted(commands & {b"report", b"judge", b"run"}) * 2 + [b"judge"] * (b"judge" in commands) or sorted(commands))
     given = words(r, command, [100000, 100000, 10 * n + 9, 10 * n + 9, 10 * n + 8])
     if command == b"judge":
         lines = model.answer([b"plan"] + given[1:], data)[1].decode().split("\n")[:-1]
@@ -350,16 +354,31 @@ def bad_schedule(r, _):
     return judged(r, lambda graph, cores: schedules.plan(graph, cores), damaged)
 
 
+# ---------------------------------------------------------------- samples
+def sampled(r, _):
+    """A sample with a limit at its work, or far from it. Whatever stands in the input is not read."""
+    n = r.choice([1, 1, 2, 3, 10, 30, r.randrange(1, 200), r.randrange(1, 5001)])
+    return words(r, b"sample", [10 * n + 9, 10 * n + 9, 10 * n + 8, 1, 100000], n), r.choice([b"", b"", b"@", b"===x\n"])
+
+
+def of_workers(r):
+    """A run on workers of a program that mostly ends, mostly with a limit that is far above the work."""
+    return words(r, b"run", [100000, 100000, 2000, r.randrange(1, 60)]), with_inputs(r)
+
+
 # How often each kind of case comes, and the command that it needs.
-GENERATORS = {"run": 36, "faulty": 32, "bad_inputs": 24, "large": 2}
+GENERATORS = {"run": 36, "faulty": 32, "bad_inputs": 24, "large": 3}
 JUDGED = {"promptly": 8, "with_flaw": 26, "with_change": 10, "bad_schedule": 12}
+SAMPLED = {"sampled": 8}
 
 
 # ---------------------------------------------------------------- what has to be hit
 def answers(command):
     """The answers, as status and kind of line, that cases of this command have to hit."""
+    if command == b"sample":
+        return ["0", "7 limit: steps"]
     found = ["0", "3", "4", "5 section", "5 inputs: bad line", "5 inputs: path twice", "7 limit: steps"]
-    found += ["7 limit: report"] * (command in (b"report", b"judge"))
+    found += ["7 limit: report"] * (command in (b"report", b"judge", b"run"))
     if command == b"judge":
         found += ["5 schedule: bad text", "5 schedule: unknown vertex"]
         found += ["6 flaw: " + kind for kind in "empty, wide, twice, not ready, idle, inverted, unfinished".split(", ")]

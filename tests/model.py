@@ -4,8 +4,9 @@
     model.py WORD.. < INPUT
 
 It says in another way what docs/LANGUAGE.md and docs/FORMATS.md say, and is made to be read beside them: the headings
-below are theirs. model_text.py and model_types.py do so for docs/LANGUAGE.md, model_steps.py for docs/STEPS.md, and
-model_schedules.py for docs/SCHEDULES.md. Speed and want of memory play no part in it.
+below are theirs. model_text.py and model_types.py do so for docs/LANGUAGE.md, model_steps.py for docs/STEPS.md,
+model_schedules.py for docs/SCHEDULES.md, and model_workers.py for the runs on workers of docs/FORMATS.md. Speed and want of memory play
+no part in it.
 """
 import re
 import sys
@@ -13,15 +14,17 @@ import sys
 sys.dont_write_bytecode = True
 import model_schedules as schedules
 import model_steps as steps
+import model_workers as workers
 from model_text import Refused, need, value
 from model_types import typed_program
 
 
-def answer(words, data, built=None):
-    """The status and the output for these words (a list of bytes) and this input (bytes) of a program that answers the
-    commands `built`, by default all that this model answers."""
+def answer(words, data):
+    """The status and the output for these words (a list of bytes) and this input (bytes). The cuts of a trace are all by worker 0."""
     try:
-        command, *numbers = look_at_words(words, built or BUILT)
+        command, *numbers = look_at_words(words)
+        if command == b"sample":
+            return 0, sample(*numbers).encode() + b"\n"
         need(len(data) <= 4194304, 7, "limit: input")
         sections = sections_of(data)
         order, procedures, main = typed_program(sections[b"program"])
@@ -41,14 +44,32 @@ def records_within(limit, job):
         raise Refused(7, "limit: steps")
 
 
+def agrees(words, wanted, got, any_cuts=False):
+    """Whether a program that gives this status, output and standard error gives what is wanted. With `any_cuts` the cuts of a trace may
+    end anywhere."""
+    if words[:1] != [b"trace"] or wanted[0] != 0 or got[0] != 0:
+        return got == wanted
+    same = workers.is_right_trace if any_cuts else workers.is_same_trace
+    return same(wanted[1], got[1], value(words[1]), value(words[2])) and got[2] == wanted[2]
+
+
+def sample(n, _workers, _quantum, cores, limit):
+    """The line of `sample`, which reads nothing."""
+    order, procedures, main = typed_program(workers.made(n))
+    records = records_within(limit, steps.Job(procedures, main, {}))
+    return workers.summary_text(n, records, schedules.plan(schedules.Graph(records, order), cores))
+
+
 def told(command, numbers, records, order, schedule_lines):
-    """The lines of each command but `check`. The cores are the first of two numbers."""
+    """The lines of each command but `check` and `sample`. The cores stand before the step limit."""
     if command == b"serial":
         return steps.run_text(records)
+    if command == b"trace":
+        return steps.run_text(records) + workers.cuts_text(records, numbers[1])
     graph = schedules.Graph(records, order)
     if command == b"graph":
         return schedules.graph_text(graph)
-    cores = numbers[0]
+    cores = numbers[-2]
     if command == b"judge":
         schedule, fault = schedules.read_schedule(schedule_lines, graph)
         need(fault is None, 5, "schedule: %s" % fault)
@@ -66,10 +87,9 @@ def told(command, numbers, records, order, schedule_lines):
 COMMANDS = {b"check": "", b"serial": "L", b"graph": "L", b"report": "PL", b"plan": "PL", b"judge": "PL",
             b"run": "WQPL", b"trace": "WQL", b"sample": "NWQPL"}
 MOST = {"W": 16, "Q": 1000, "P": 1024, "L": 100000, "N": 5000}
-BUILT = [b"check", b"serial", b"graph", b"report", b"plan", b"judge"]
 
 
-def look_at_words(words, built):
+def look_at_words(words):
     """The command and its numbers."""
     need(words, 2, "words: no command")
     are_texts = all(word.decode("utf-8", "ignore").encode() == word for word in words)
@@ -79,7 +99,6 @@ def look_at_words(words, built):
     for number, (word, letter) in enumerate(zip(words[1:], letters), 1):
         need(re.fullmatch(b"[0-9]+", word), 2, "words: bad number at number %d" % number)
         need(1 <= value(word) <= MOST[letter], 2, "words: out of range at number %d" % number)
-    need(words[0] in built, 2, "words: not built")
     return [words[0]] + [value(word) for word in words[1:]]
 
 

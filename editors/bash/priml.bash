@@ -28,6 +28,8 @@ _lens() {
   COMPREPLY=()
   case $before in
     -p) mapfile -t COMPREPLY < <(compgen -W "1 2 4 8 1,2,4,8" -- "$word"); return ;;
+    --workers) mapfile -t COMPREPLY < <(compgen -W "1 2 4 8 16" -- "$word"); return ;;
+    -q) mapfile -t COMPREPLY < <(compgen -W "1 8 64 1000" -- "$word"); return ;;
     -l) mapfile -t COMPREPLY < <(compgen -W "1000 10000 100000" -- "$word"); return ;;
     --program | -o) mapfile -t COMPREPLY < <(compgen -f -- "$word"); return ;;
   esac

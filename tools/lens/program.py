@@ -41,8 +41,6 @@ class Program:
     def ask(self, words, text):
         """The program's output; raises what it refuses."""
         answer = self.answer(words, text.data)
-        if answer == (2, "words: not built\n"):
-            raise Trouble("the program does not have the command `%s` yet" % words[0])
         if answer.status != 0:
             raise Refusal(answer, text, words)
         return answer.text

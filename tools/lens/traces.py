@@ -1,8 +1,11 @@
 """A plan, or the cuts of a run on workers, in the Chrome trace event format, for chrome://tracing, Perfetto and speedscope. One step is
 a microsecond."""
+import heapq
 import json
+import math
 
 from . import drawing
+from .program import Trouble
 
 
 def trace(graph, steps, cores, name):
@@ -17,30 +20,64 @@ def of_cuts(graph, cuts, workers, name):
     return as_text(graph, placed(graph, cuts), "%s on %d workers" % (name, workers), ["worker %d" % row for row in range(workers)])
 
 
+class Row:
+    """A worker: when it is free, and its cuts that wait for no other any more, by their places: `now` those that could have started by
+    then, and `later` those that can start at a time."""
+
+    def __init__(self):
+        self.free, self.now, self.later = 0, [], []
+
+    def add(self, time, place):
+        heapq.heappush(self.later, (time, place))
+
+    def start(self):
+        """When its next cut starts; infinite where it has none."""
+        if self.now:
+            return self.free
+        return max(self.free, self.later[0][0]) if self.later else math.inf
+
+    def take(self, start):
+        """The place of the next cut."""
+        while self.later and self.later[0][0] <= start:
+            heapq.heappush(self.now, heapq.heappop(self.later)[1])
+        return heapq.heappop(self.now)
+
+
 def placed(graph, cuts):
-    """A bar for each cut. A cut is placed behind all that it waits for."""
-    holds = {"%s:%d" % (cut.path, cut.first + at): cut for cut in cuts for at in range(cut.steps)}
-    waits = {cut: {holds["%s:%d" % (cut.path, cut.first - 1)]} if cut.first else set() for cut in cuts}
-    for before, after in graph.spawns + graph.joins:
-        if holds[before] != holds[after]:
-            waits[holds[after]].add(holds[before])
-    later = {cut: [] for cut in cuts}
-    for cut, before in waits.items():
-        for one in before:
-            later[one].append(cut)
-    ends, free, left = {}, {}, {cut: len(before) for cut, before in waits.items()}
-    ready, bars = [cut for cut in cuts if not left[cut]], []
-    while ready:
-        cut = min(ready, key=lambda one: max([free.get(one.worker, 0)] + [ends[before] for before in waits[one]]))
-        ready.remove(cut)
-        start = max([free.get(cut.worker, 0)] + [ends[before] for before in waits[cut]])
-        ends[cut] = free[cut.worker] = start + cut.steps
+    """A bar for each cut, behind all that it waits for. The cut that can start first is placed next."""
+    left, waiting = waits(graph, cuts)
+    rows, times, bars = {cut.worker: Row() for cut in cuts}, [0] * len(cuts), []
+    for place, cut in enumerate(cuts):
+        if not left[place]:
+            rows[cut.worker].add(0, place)
+    for _ in cuts:
+        row = min(rows.values(), key=Row.start)
+        start = row.start()
+        if start == math.inf:
+            raise Trouble("the cuts of this run wait for each other")
+        place = row.take(start)
+        cut = cuts[place]
+        row.free = start + cut.steps
         bars.append(drawing.Bar(cut.path, cut.worker, start + 1, cut.steps, cut.first))
-        for one in later[cut]:
+        for one in waiting[place]:
+            times[one] = max(times[one], row.free)
             left[one] -= 1
             if not left[one]:
-                ready.append(one)
+                rows[cuts[one].worker].add(times[one], one)
     return bars
+
+
+def waits(graph, cuts):
+    """For how many other cuts each cut waits, and which wait for it."""
+    holds = {"%s:%d" % (cut.path, cut.first + at): place for place, cut in enumerate(cuts) for at in range(cut.steps)}
+    pairs = {(holds["%s:%d" % (cut.path, cut.first - 1)], place) for place, cut in enumerate(cuts) if cut.first}
+    pairs |= {(holds[before], holds[after]) for before, after in graph.spawns + graph.joins}
+    left, waiting = [0] * len(cuts), [[] for _ in cuts]
+    for before, after in sorted(pairs):
+        if before != after:
+            left[after] += 1
+            waiting[before].append(after)
+    return left, waiting
 
 
 def as_text(graph, drawn, title, rows):

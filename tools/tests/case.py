@@ -33,7 +33,7 @@ class Case(unittest.TestCase):
         lines = ["#!/bin/sh", "cat > /dev/null", 'case "$1" in']
         for command, (status, text) in answers.items():
             lines.append("%s) printf %%s %s; exit %d ;;" % (command, shlex.quote(text), status))
-        path = self.file("program", "\n".join(lines + ["*) echo 'words: not built'; exit 2 ;;", "esac", ""]))
+        path = self.file("program", "\n".join(lines + ["*) echo 'words: unknown command'; exit 2 ;;", "esac", ""]))
         os.chmod(path, 0o755)
         return path
 
@@ -51,16 +51,7 @@ class Case(unittest.TestCase):
         """The output of the program itself."""
         return subprocess.run([PROGRAM] + list(words), input=given, stdout=subprocess.PIPE).stdout.decode()
 
-    def has(self, command):
-        """Whether the program has this command."""
-        numbers = {"check": [], "serial": ["1"], "graph": ["1"]}
-        words = [PROGRAM, command] + numbers.get(command, ["1", "1"])
-        return subprocess.run(words, input=b"", stdout=subprocess.PIPE).stdout != b"words: not built\n"
-
-    def need(self, *commands):
-        """Skips a test where the program is not there or lacks one of the commands."""
+    def need_program(self):
+        """Skips a test where the program is not there."""
         if PROGRAM is None:
             self.skipTest("no built program (set PRIML to name one)")
-        for command in commands:
-            if not self.has(command):
-                self.skipTest("the program has no `%s` yet" % command)

@@ -237,7 +237,7 @@ class Calls(Case):
             self.assertEqual(text.start_of_line(len(starts) + 1), len(data))
 
     def test_files_of_the_program(self):
-        self.need("check")
+        self.need_program()
         for name, status in (("inversion", 4), ("fetch", 0), ("dashboard", 0)):
             self.assertEqual(self.lens("check", os.path.join(TOP, "examples", name + ".priml"))[0], status)
         for data, title in ((b"\xff\xfe\x00", "1:1: error: bad byte"), (b"===", "1:1: error: unknown section"),

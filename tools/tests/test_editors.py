@@ -110,7 +110,7 @@ vim.cmd("quitall!")
 """
 
     def test_faults_as_the_text_changes(self):
-        self.need("check")
+        self.need_program()
         if not shutil.which("nvim"):
             self.skipTest("no nvim")
         self.file("a.priml", "priority p;\nmain at p : int { ret true }\n")
@@ -144,6 +144,8 @@ class Shell(Case):
         self.assertEqual(self.complete("lens", "report", ""), ["a.priml", "examples/"])
         self.assertEqual(self.complete("lens", "report", "--"), ["--program", "--help", "--csv", "--json"])
         self.assertEqual(self.complete("lens", "report", "-p", "1"), ["1", "1,2,4,8"])
+        self.assertEqual(self.complete("lens", "trace", "--workers", "1"), ["1", "16"])
+        self.assertEqual(self.complete("lens", "trace", "-q", ""), ["1", "8", "64", "1000"])
 
     def test_it_knows_all_commands(self):
         kinds = next(one for one in commands.parser()._actions if one.choices).choices

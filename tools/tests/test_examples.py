@@ -27,7 +27,7 @@ class Examples(Case):
             self.assertTrue(self.source(name).startswith(b"# ") or name.endswith(".report"), name)
 
     def test_check(self):
-        self.need("check")
+        self.need_program()
         for name in sorted(os.listdir(FOLDER)):
             if name.endswith(".priml"):
                 wrong = name.endswith("-bad.priml") or name == "inversion.priml"
@@ -36,14 +36,14 @@ class Examples(Case):
                     self.assertRegex(done.stdout.decode(), r"\Atype: inversion at \d+\n\Z" if wrong else r"\Aok\n\Z")
 
     def test_reports(self):
-        self.need("report")
+        self.need_program()
         for name in sorted(os.listdir(FOLDER)):
             if name.endswith(".report"):
                 with self.subTest(name):
                     self.assertEqual(self.asked("report", "2", "1000", given=self.source(name[:-7] + ".priml")), self.source(name).decode())
 
     def test_bounds(self):
-        self.need("report")
+        self.need_program()
         for family in FAMILIES:
             for cores in (1, 2, 3, 8):
                 for row in self.report(family, cores).values():
@@ -52,7 +52,7 @@ class Examples(Case):
                         self.assertEqual(row.bound, (row.work + (cores - 1) * row.span) // cores)
 
     def test_what_to_look_at(self):
-        self.need("report")
+        self.need_program()
         for cores in (1, 2, 8):
             editor, alarm, photos = (self.report(name, cores) for name in ("editor", "alarm", "photos"))
             self.assertEqual((editor["0"].time, editor["0"].bound), (46, 46))

@@ -8,7 +8,8 @@ import unittest
 import xml.etree.ElementTree as xml
 
 from case import Case
-from lens import answers, drawing
+from lens import answers, drawing, traces
+from lens.program import Trouble
 from test_report import REPORT, SOURCE
 
 GRAPH = """thread 0 ui 7
@@ -81,6 +82,15 @@ class Parts(unittest.TestCase):
         self.assertEqual(len(used), len(set(used)))
         self.assertEqual(len(used), sum(map(len, steps)))
 
+    def test_cuts_are_placed_where_they_can_start_first(self):
+        graph = answers.Graph([("0", "p", 4), ("0.0", "p", 3)], [("0:1", "0.0:0")], [])
+        cuts = [answers.Cut("0", 0, 2, 0), answers.Cut("0", 2, 2, 1), answers.Cut("0.0", 0, 3, 1)]
+        self.assertEqual(traces.placed(graph, cuts), [("0", 0, 1, 2, 0), ("0", 1, 3, 2, 2), ("0.0", 1, 5, 3, 0)])
+
+    def test_cuts_that_wait_for_each_other(self):
+        graph = answers.Graph([("0", "p", 4), ("0.0", "p", 2)], [("0:1", "0.0:0")], [("0.0:1", "0:2")])
+        self.assertRaises(Trouble, traces.placed, graph, [answers.Cut("0", 0, 4, 0), answers.Cut("0.0", 0, 2, 1)])
+
     def test_ticks(self):
         self.assertEqual(drawing.ticks(1), [1])
         self.assertEqual(drawing.ticks(5), [1, 2, 3, 4, 5])
@@ -137,7 +147,7 @@ class Pictures(Case):
         self.assertEqual([(one["name"], one["tid"], one["ts"], one["dur"]) for one in events if one["ph"] == "X"],
                          [("0 ui", 0, 0, 2), ("0.0 bg", 1, 2, 2), ("0.0 bg", 0, 4, 1), ("0 ui", 1, 5, 2)])
         status, out, err = self.lens(*words, program=self.fake(graph=(0, graph)))
-        self.assertEqual((status, out, err), (1, "", "lens: the program does not have the command `trace` yet\n"))
+        self.assertEqual((status, out, err.split("\n")[0]), (2, "", "a.priml: error: unknown command"))
 
     def test_view(self):
         out = self.run_of("view", "-p", "2")
@@ -177,7 +187,7 @@ response 0 ui time 301 work 301 span 301 bound 301
                          (1, "", "lens: cannot write none/x: No such file or directory\n"))
 
     def test_of_the_program(self):
-        self.need("graph", "plan", "report")
+        self.need_program()
         self.file("a", SOURCE)
         self.assertEqual(self.lens("dot", "a"), (0, DOT, ""))
         for command in ("svg", "view", "trace"):
@@ -188,6 +198,22 @@ response 0 ui time 301 work 301 span 301 bound 301
         self.file("a", SOURCE)
         self.assertEqual(self.lens("dot", "a", "-l", "3", "-o", "x")[0], 7)
         self.assertFalse(os.path.exists(self.path("x")))
+
+    def test_cuts_of_the_program(self):
+        self.need_program()
+        self.file("a", SOURCE)
+        events = json.loads(self.lens("trace", "a", "--workers", "3", "-q", "2")[1])["traceEvents"]
+        cuts = [one for one in events if one["ph"] == "X"]
+        when = {}
+        for cut in cuts:
+            path, first = cut["args"]["first vertex"].split(":")
+            when.update({"%s:%d" % (path, int(first) + at): cut["ts"] + at for at in range(cut["dur"])})
+        graph = answers.read_graph(GRAPH)
+        self.assertEqual(sorted(when), sorted("%s:%d" % (path, at) for path, _, steps in graph.threads for at in range(steps)))
+        self.assertEqual(len({(cut["tid"], cut["ts"] + at) for cut in cuts for at in range(cut["dur"])}), len(when))
+        edges = graph.spawns + graph.joins + [("%s:%d" % (path, at), "%s:%d" % (path, at + 1)) for path, _, steps in graph.threads for at in range(steps - 1)]
+        for before, after in edges:
+            self.assertLess(when[before], when[after])
 
     def browse(self, page, width=1280):
         """The page as a browser has it after a while."""

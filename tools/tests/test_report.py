@@ -68,13 +68,8 @@ cores,thread,priority,steps,outcome,work,span,response,bound,left
                          (1, "", "lens: the program answered a line that lens does not know: 'thread x'\n"))
         self.assertEqual(self.lens("report", "a", "-p2", program=self.fake(report=(0, REPORT[:100])))[0], 1)
 
-    def test_not_built(self):
-        self.file("a", "")
-        self.assertEqual(self.lens("report", "a", "-p", "2", program=self.fake()),
-                         (1, "", "lens: the program does not have the command `report` yet\n"))
-
     def test_of_the_program(self):
-        self.need("report", "judge")
+        self.need_program()
         self.file("a", SOURCE)
         self.assertEqual(self.lens("report", "a", "-p", "2", "-l", "12")[:2], (0, TABLE))
         self.assertEqual(self.lens("report", "a", "-p", "1,2"), (0, """\

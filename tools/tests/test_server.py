@@ -123,7 +123,7 @@ class Served(Case):
         self.assertTrue(one["message"].startswith("inversion: A thread waits only"))
 
     def test_faults_of_inputs(self):
-        for serial, lines in (((5, "inputs: bad line 1\n"), [15]), ((7, "limit: steps\n"), []), ((2, "words: not built\n"), []), ((0, "work 1\n"), [])):
+        for serial, lines in (((5, "inputs: bad line 1\n"), [15]), ((7, "limit: steps\n"), []), ((2, "words: unknown command\n"), []), ((0, "work 1\n"), [])):
             found = self.talk(self.opened(), program=self.fake(check=(0, "ok\n"), serial=serial))[1]
             self.assertEqual([one["range"]["start"]["line"] for one in found[0]["params"]["diagnostics"]], lines)
 
@@ -172,7 +172,7 @@ class Served(Case):
         self.assertEqual(self.talk(("textDocument/didOpen", {}))[2], "lens: a notice without its parts: 'textDocument'\n")
 
     def test_the_program_is_asked_while_the_client_waits(self):
-        self.need("check")
+        self.need_program()
         body = json.dumps({"jsonrpc": "2.0", "method": self.opened()[0], "params": self.opened("priority p; main at p : int { ret true }")[1]}).encode()
         call = subprocess.Popen([LENS, "lsp", "--program", PROGRAM], stdin=subprocess.PIPE, stdout=subprocess.PIPE)
         began = time.time()

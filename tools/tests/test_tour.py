@@ -1,4 +1,5 @@
 """docs/TOUR.md: each of its calls answers what stands there, and what it asks the reader to try ends as it says."""
+import json
 import os
 import re
 import subprocess
@@ -27,26 +28,24 @@ class Tour(Case):
         self.file(name, text)
 
     def test_calls(self):
-        self.need("check", "serial", "report")
+        self.need_program()
         os.symlink(LENS, self.path("lens"))
         os.symlink(os.path.abspath(PROGRAM), self.path("priml"))
         called = 0
         for block in self.blocks:
             for call, told in re.findall(r"^\$ (.*)\n((?:[^$].*\n)*)", block, re.MULTILINE):
                 called += 1
-                if "lens judge" in call and not self.has("judge"):
-                    continue
                 with self.subTest(call):
                     done = subprocess.run(call, shell=True, cwd=self.folder.name, stdout=subprocess.PIPE, stderr=subprocess.STDOUT)
                     self.assertEqual(done.stdout.decode(), told)
-        self.assertEqual(called, 14)
+        self.assertEqual(called, 17)
 
     def error(self, *words):
         _, out, told = self.lens(*words)
         return re.search(r"error: (.*)", out + told).group(1)
 
     def test_what_to_try(self):
-        self.need("check", "report", "serial")
+        self.need_program()
         self.changed("first.priml", ("{ ret 4096 }", "{ told <- output 4096; ret 4096 }"))
         self.assertIn("thread 0.0 bg 3 ", self.asked("serial", "100", given=self.data("first.priml")))
         self.changed("third.priml", ("order bg < ui;", "order bg < ui; order ui < bg;"))
@@ -59,15 +58,21 @@ class Tour(Case):
         self.assertEqual(self.error("check", "sums.priml"), "constraint")
         self.changed("sums.priml", wrong, ("; p <= q", ""))
         self.assertEqual(self.error("check", "sums.priml"), "inversion")
-        self.need("judge")
         self.assertEqual(self.error("judge", "better.priml", "-p", "2"), "step 3 leaves a core idle")
 
     def data(self, name):
         with open(self.path(name), "rb") as file:
             return file.read()
 
+    def test_cuts_stay(self):
+        self.need_program()
+        one, four = (self.asked("trace", workers, "5", "200", given=self.data("sums.priml")) for workers in "14")
+        self.assertEqual(re.sub(r"worker [0-3]\n", "worker 0\n", four), one)
+        self.assertEqual(self.lens("trace", "sums.priml", "--workers", "4", "-q", "5", "-o", "sums.json"), (0, "", ""))
+        self.assertIn("traceEvents", json.loads(self.data("sums.json")))
+
     def test_urgent_rows_stay(self):
-        self.need("report")
+        self.need_program()
         before = self.lens("report", "sums.priml", "-p", "2", "--csv")[1].split("\n")[1:3]
         self.changed("sums.priml", ("sum[bg](4)", "sum[bg](40)"))
         self.assertEqual(self.lens("report", "sums.priml", "-p", "2", "--csv")[1].split("\n")[1:3], before)

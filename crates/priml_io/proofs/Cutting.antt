@@ -198,6 +198,21 @@ module _ (input program : List ℕ) (i s : Option (List ℕ)) (m : ℕ) (rest li
   further_number : (n : ℕ) → n ≡ m + 1 + length (lines body) → n ≡ 1 + length (lines further)
   further_number n e = omega (arith, e, c.number_is, ap length further_lines, length-append (lines c.prefix) (line ∷ lines body))
 
+  -- what is cut with this section, where the known ones so far are right
+  with_section : (i' s' : Option (List ℕ)) (n : ℕ) → AreSections (lines c.prefix ++ line ∷ lines body) → SoFar input further (codes "inputs") i' → SoFar input further (codes "schedule") s'
+      → n ≡ m + 1 + length (lines body) → Cutting input program i' s' n after
+  with_section i' s' n right inputs schedule e =
+      record {
+        prefix = further;
+        is = further_is;
+        ends = further_ends h.part.ended;
+        number_is = further_number n e;
+        right = subst AreSections (sym further_lines) right;
+        program_is = c.program_is;
+        inputs_is = inputs;
+        schedule_is = schedule;
+      }
+
 -- the section `inputs` comes
 pub inputs-next : (input program : List ℕ) (s : Option (List ℕ)) (m n : ℕ) (rest line body after : List ℕ) → Cutting input program None s m rest → Headed rest line body after → 0 < length rest → IsHeading (codes "inputs") line → n ≡ m + 1 + length (lines body) → Cutting input program (Some body) s n after
 inputs-next input program s m n rest line body after c h some heading e =
@@ -208,16 +223,9 @@ inputs-next input program s m n rest line body after c h some heading e =
       inputs = new_once (lines c.prefix) (lines body) line plain (codes "inputs") c.right.inputs c.inputs_is;
       schedule = other_once (lines c.prefix) (lines body) line plain (codes "schedule") c.right.schedule other;
     } in
-    record {
-      prefix = further input program None s m rest line body after c h some;
-      is = further_is input program None s m rest line body after c h some;
-      ends = further_ends input program None s m rest line body after c h some h.part.ended;
-      number_is = further_number input program None s m rest line body after c h some n e;
-      right = subst AreSections (sym (further_lines input program None s m rest line body after c h some)) right;
-      program_is = c.program_is;
-      inputs_is = new_so_far input program None s m rest line body after c h some (codes "inputs") heading;
-      schedule_is = other_so_far input program None s m rest line body after c h some (codes "schedule") s other c.schedule_is;
-    }
+    with_section input program None s m rest line body after c h some (Some body) s n right
+    (new_so_far input program None s m rest line body after c h some (codes "inputs") heading)
+    (other_so_far input program None s m rest line body after c h some (codes "schedule") s other c.schedule_is) e
 
 -- the section `schedule` comes
 pub schedule-next : (input program : List ℕ) (i : Option (List ℕ)) (m n : ℕ) (rest line body after : List ℕ) → Cutting input program i None m rest → Headed rest line body after → 0 < length rest → IsHeading (codes "schedule") line → n ≡ m + 1 + length (lines body) → Cutting input program i (Some body) n after
@@ -229,16 +237,9 @@ schedule-next input program i m n rest line body after c h some heading e =
       inputs = other_once (lines c.prefix) (lines body) line plain (codes "inputs") c.right.inputs other;
       schedule = new_once (lines c.prefix) (lines body) line plain (codes "schedule") c.right.schedule c.schedule_is;
     } in
-    record {
-      prefix = further input program i None m rest line body after c h some;
-      is = further_is input program i None m rest line body after c h some;
-      ends = further_ends input program i None m rest line body after c h some h.part.ended;
-      number_is = further_number input program i None m rest line body after c h some n e;
-      right = subst AreSections (sym (further_lines input program i None m rest line body after c h some)) right;
-      program_is = c.program_is;
-      inputs_is = other_so_far input program i None m rest line body after c h some (codes "inputs") i other c.inputs_is;
-      schedule_is = new_so_far input program i None m rest line body after c h some (codes "schedule") heading;
-    }
+    with_section input program i None m rest line body after c h some i (Some body) n right
+    (other_so_far input program i None m rest line body after c h some (codes "inputs") i other c.inputs_is)
+    (new_so_far input program i None m rest line body after c h some (codes "schedule") heading) e
 
 -- the line at which a cut stops
 module _ (input program : List ℕ) (i s : Option (List ℕ)) (n : ℕ) (rest bytes line tail : List ℕ) (c : Cutting input program i s n rest) (row : IsRow bytes line tail) (is : rest ≡ bytes ++ tail) (some : 0 < length rest) where

@@ -23,29 +23,23 @@ quantum = 1000
 abbrev pub samples : ℕ
 samples = 5000
 
--- the word of each command
-abbrev pub word_of : Name → List ℕ
-word_of named.Check = codes "check"
-word_of named.Serial = codes "serial"
-word_of named.Report = codes "report"
-word_of named.Run = codes "run"
-word_of named.Trace = codes "trace"
-word_of named.Graph = codes "graph"
-word_of named.Plan = codes "plan"
-word_of named.Judge = codes "judge"
-word_of named.Sample = codes "sample"
+-- the commands: the word of each, and the numbers that it takes, each from 1 to this
+abbrev pub entry_of : Name → List ℕ × List ℕ
+entry_of named.Check = (codes "check", [])
+entry_of named.Serial = (codes "serial", steps ∷ [])
+entry_of named.Report = (codes "report", cores ∷ steps ∷ [])
+entry_of named.Run = (codes "run", workers ∷ quantum ∷ cores ∷ steps ∷ [])
+entry_of named.Trace = (codes "trace", workers ∷ quantum ∷ steps ∷ [])
+entry_of named.Graph = (codes "graph", steps ∷ [])
+entry_of named.Plan = (codes "plan", cores ∷ steps ∷ [])
+entry_of named.Judge = (codes "judge", cores ∷ steps ∷ [])
+entry_of named.Sample = (codes "sample", samples ∷ workers ∷ quantum ∷ cores ∷ steps ∷ [])
 
--- the numbers that each command takes, each from 1 to this
+abbrev pub word_of : Name → List ℕ
+word_of name = (entry_of name).0
+
 abbrev pub bounds : Name → List ℕ
-bounds named.Check = []
-bounds named.Serial = steps ∷ []
-bounds named.Report = cores ∷ steps ∷ []
-bounds named.Run = workers ∷ quantum ∷ cores ∷ steps ∷ []
-bounds named.Trace = workers ∷ quantum ∷ steps ∷ []
-bounds named.Graph = steps ∷ []
-bounds named.Plan = cores ∷ steps ∷ []
-bounds named.Judge = cores ∷ steps ∷ []
-bounds named.Sample = samples ∷ workers ∷ quantum ∷ cores ∷ steps ∷ []
+bounds name = (entry_of name).1
 
 -- which command it is
 abbrev pub name_of : Command → Name

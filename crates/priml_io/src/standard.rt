@@ -61,15 +61,6 @@ pub struct StdSink<W> {
     faults: u64,
 }
 
-impl<W> StdSink<W> {
-    /// The sink that writes to this writer, with no fault yet.
-    pub fn new(writer: W) -> StdSink<W>
-        ensures { result ≡ record { writer = writer; faults = 0 } }
-    {
-        StdSink { writer, faults: 0 }
-    }
-}
-
 impl<W: Write> Sink for StdSink<W> {
     ghost written = { λ _. None };
 
@@ -90,6 +81,15 @@ impl<W: Write> Sink for StdSink<W> {
             Ok(count) if count > 0 => or_fault(&mut self.faults, Some(count)),
             _ => or_fault(&mut self.faults, None),
         }
+    }
+}
+
+impl<W> StdSink<W> {
+    /// The sink that writes to this writer, with no fault yet.
+    pub fn new(writer: W) -> StdSink<W>
+        ensures { result ≡ record { writer = writer; faults = 0 } }
+    {
+        StdSink { writer, faults: 0 }
     }
 }
 

@@ -49,8 +49,12 @@ abbrev pub is_number : List ℕ → Bool
 is_number [] = false
 is_number (b ∷ bs) = is_digit b && list_all is_digit bs
 
+-- the bytes of what is written
+abbrev pub Spelling : Type 0
+Spelling = List ℕ
+
 -- the bytes of a reserved word
-abbrev pub word_spelling : Word → List ℕ
+abbrev pub word_spelling : (word : Word) → Spelling
 word_spelling w.Priority = codes "priority"
 word_spelling w.Order = codes "order"
 word_spelling w.Proc = codes "proc"
@@ -81,7 +85,7 @@ word_spelling w.Int = codes "int"
 word_spelling w.Thread = codes "thread"
 
 -- the bytes of a sign
-abbrev pub sign_spelling : Sign → List ℕ
+abbrev pub sign_spelling : Sign → Spelling
 sign_spelling s.Arrow = codes "<-"
 sign_spelling s.AtMost = codes "<="
 sign_spelling s.Equal = codes "=="

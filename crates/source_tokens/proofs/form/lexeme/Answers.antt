@@ -15,24 +15,20 @@ if_none (Some x) p = tt
 pub returns-then-begins_word-clause-within : goal.returns-then-begins_word-clause-within
 returns-then-begins_word-clause-within c = rw c.word_len.ensures (prefix_len-le-length is_part c.args.text.now)
 
-pub returns-then-begins_word-clause-formed : goal.returns-then-begins_word-clause-formed
-returns-then-begins_word-clause-formed c =
-    word_front c.args.text.now c.word_len.result c.in_ok-first.first.now c.in_ok-first.tail.now c.in_ok-first.ensures.cases.0 (sym c.begins_word.ensures ∙ c.if-begins_word.true) c.word_len.ensures
-
-pub returns-then-begins_word-clause-longest : goal.returns-then-begins_word-clause-longest
-returns-then-begins_word-clause-longest c =
-    word_longest c.args.text.now c.word_len.result c.in_ok-first.first.now c.in_ok-first.tail.now c.in_ok-first.ensures.cases.0 (sym c.begins_word.ensures ∙ c.if-begins_word.true) c.word_len.ensures
-
 pub returns-then-is_digit-clause-within : goal.returns-then-is_digit-clause-within
 returns-then-is_digit-clause-within c = rw c.digits_len.ensures (prefix_len-le-length is_digit c.args.text.now)
 
+pub returns-then-begins_word-clause-formed : goal.returns-then-begins_word-clause-formed
+returns-then-begins_word-clause-formed c = word_front _ _ _ _ c.in_ok-first.ensures.cases.0 (sym c.begins_word.ensures ∙ c.if-begins_word.true) c.word_len.ensures
+
+pub returns-then-begins_word-clause-longest : goal.returns-then-begins_word-clause-longest
+returns-then-begins_word-clause-longest c = word_longest _ _ _ _ c.in_ok-first.ensures.cases.0 (sym c.begins_word.ensures ∙ c.if-begins_word.true) c.word_len.ensures
+
 pub returns-then-is_digit-clause-formed : goal.returns-then-is_digit-clause-formed
-returns-then-is_digit-clause-formed c =
-    number_front c.args.text.now c.digits_len.result c.in_ok-first.first.now c.in_ok-first.tail.now c.in_ok-first.ensures.cases.0 (sym c.is_digit.ensures ∙ c.if-is_digit.true) c.digits_len.ensures
+returns-then-is_digit-clause-formed c = number_front _ _ _ _ c.in_ok-first.ensures.cases.0 (sym c.is_digit.ensures ∙ c.if-is_digit.true) c.digits_len.ensures
 
 pub returns-then-is_digit-clause-longest : goal.returns-then-is_digit-clause-longest
-returns-then-is_digit-clause-longest c =
-    number_longest c.args.text.now c.digits_len.result c.in_ok-first.first.now c.in_ok-first.tail.now c.in_ok-first.ensures.cases.0 (sym c.is_digit.ensures ∙ c.if-is_digit.true) c.digits_len.ensures
+returns-then-is_digit-clause-longest c = number_longest _ _ _ _ c.in_ok-first.ensures.cases.0 (sym c.is_digit.ensures ∙ c.if-is_digit.true) c.digits_len.ensures
 
 pub returns-in_err-sign-clause-none : goal.returns-in_err-sign-clause-none
 returns-in_err-sign-clause-none c =

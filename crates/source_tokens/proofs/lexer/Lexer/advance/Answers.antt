@@ -42,8 +42,8 @@ pub returns-clause-leads : goal.returns-clause-leads
 returns-clause-leads c = λ text leads.
     let old = c.args.self.now in
     let spells = rw c.in-Some-2.is at c.in_ok-kind.ensures in
+    let front = subst (λ l. Spells (name_bytes old.names) l c.in-Some-2.kind (name_bytes c.kind_of.new.names)) c.split_at.ensures.front spells in
     goes_on text old.total old.depth (name_bytes old.names) old.rest.now (tokens_of old) leads c.skip-rest.result.now c.skip-rest.ensures.left
-    c.in-Some.len c.in-Some.ensures.longest c.in-Some-2.kind (name_bytes c.kind_of.new.names) (joined c.push.new.runs.items ++ c.push.new.run.items)
-    (subst (λ l. Spells (name_bytes old.names) l c.in-Some-2.kind (name_bytes c.kind_of.new.names)) c.split_at.ensures.front spells)
+    c.in-Some.len c.in-Some.ensures.longest c.in-Some-2.kind (name_bytes c.kind_of.new.names) (joined c.push.new.runs.items ++ c.push.new.run.items) front
     c.in_ok-push.ensures
     c.in-Some-open_behind.depth c.split_at.result.1.now c.in-Some-open_behind.ensures.some c.split_at.ensures.back c.in-Some-open_behind.ensures.shallow

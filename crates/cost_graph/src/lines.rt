@@ -75,6 +75,16 @@ fn push_spawns(text: &mut String, graph: &Graph) -> Result<(), AllocError>
     Ok(())
 }
 
+// Appends the lines of the join edges.
+fn push_joins(text: &mut String, graph: &Graph) -> Result<(), AllocError>
+    ensures { OnOk result (string_bytes text.new ≡ string_bytes text.old ++ flat_map (join_lines graph.now) (range_with_len 0 (vertex_total graph.now))) }
+{
+    for vertex in 0..graph.vertex_count() {
+        push_join(text, graph, vertex)?;
+    }
+    Ok(())
+}
+
 // Appends the lines of the edges to the first vertex of a thread.
 fn push_spawn(text: &mut String, graph: &Graph, thread: u32) -> Result<(), AllocError>
     requires { thread < thread_total graph.now }
@@ -85,16 +95,6 @@ fn push_spawn(text: &mut String, graph: &Graph, thread: u32) -> Result<(), Alloc
     let parents = graph.parents_of(first);
     for parent in parents {
         push_edge(text, graph, "spawn", *parent, first)?;
-    }
-    Ok(())
-}
-
-// Appends the lines of the join edges.
-fn push_joins(text: &mut String, graph: &Graph) -> Result<(), AllocError>
-    ensures { OnOk result (string_bytes text.new ≡ string_bytes text.old ++ flat_map (join_lines graph.now) (range_with_len 0 (vertex_total graph.now))) }
-{
-    for vertex in 0..graph.vertex_count() {
-        push_join(text, graph, vertex)?;
     }
     Ok(())
 }

@@ -12,10 +12,10 @@ use std::alloc::{AllocError, Global};
 // Marks the vertex at a place of the order, and adds those that it frees at the end.
 fn pass(
     graph: &Graph,
+    place: usize,
     marks: &mut Vec<bool>,
     seen: &mut Vec<usize>,
     order: &mut Vec<u32>,
-    place: usize,
 ) -> Result<(), AllocError>
     requires place_in { place < length order.old.items }
     requires vertex_in { slice_index order.old.items place < vertex_total graph.now }
@@ -42,7 +42,7 @@ pub fn topological(alloc: Global, graph: &Graph) -> Result<Vec<u32>, AllocError>
     let mut order = sources(alloc, graph)?;
     let mut place = 0;
     'places: while place < order.len() {
-        pass(graph, &mut marks, &mut seen, &mut order, place)?;
+        pass(graph, place, &mut marks, &mut seen, &mut order)?;
         place += 1;
     }
     Ok(order)

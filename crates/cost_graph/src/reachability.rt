@@ -50,8 +50,8 @@ pub fn descendants(
     order: &[u32],
     source: u32,
 ) -> Result<Vec<bool>, AllocError>
-    requires order { IsTopological graph.now order.now }
     requires acyclic { IsAcyclic graph.now }
+    requires order { IsTopological graph.now order.now }
     ensures { IfOk result (λ marks. AreMarked graph.now (IsProperAncestor graph.now source) marks.items) }
 {
     let count = graph.vertex_count() as usize;

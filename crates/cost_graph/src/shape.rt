@@ -2,7 +2,7 @@
 ghost use Rattle.std.specs.Prelude.{◌≡◌, ℕ, ◌*◌, ◌<◌, ◌≤◌, ◌↔◌, length, Err, IsTrue, IfOk, MatchBool, MatchOption};
 ghost use Rattle.std.specs.List.{All};
 ghost use Rattle.cost_graph.specs.declared.graph.Thread.{Thread as TheThread};
-ghost use Rattle.cost_graph.specs.declared.stop.ShapeStop.TheVariants.{TooLarge};
+ghost use Rattle.cost_graph.specs.declared.stop.GraphStop.TheVariants.{TooLarge};
 ghost use Rattle.cost_graph.specs.Graph.{vertex_total, thread_total, first_vertex, last_vertex, IsAcyclic, IsAncestor, IsProperAncestor, IsWellFormed, IsThreadWellFormed};
 ghost use Rattle.cost_graph.specs.Order.{IsTopological, AreMarked};
 ghost use Rattle.cost_graph.specs.Shape.{most_looks, IsShape, IsUnfit, IsFirstUnfit};
@@ -11,14 +11,14 @@ ghost use Rattle.cost_graph.specs.Inside.Shape.{IsFit};
 use crate::graph::Graph;
 use crate::order::topological;
 use crate::reachability::ancestors;
-use crate::stop::{Shape, ShapeStop};
+use crate::stop::{GraphStop, Shape};
 use priority_order::Order;
 use std::alloc::{AllocError, Global};
 
 /// Whether the graph is well formed over the order, or the first thread for which it is not, with its first vertex
 /// that shows it. The graph has no cycle, and the priorities of its threads are below the order's count. TooLarge
 /// exactly where threads times vertices exceeds 134,217,728.
-pub fn well_formed(alloc: Global, graph: &Graph, order: &Order) -> Result<Shape, ShapeStop>
+pub fn well_formed(alloc: Global, graph: &Graph, order: &Order) -> Result<Shape, GraphStop>
     requires acyclic { IsAcyclic graph.now }
     requires priorities { All (λ (t : TheThread). t.priority < length order.now.names) graph.now.threads }
     ensures shape { IfOk result (IsShape graph.now order.now.pairs) }
@@ -28,7 +28,7 @@ pub fn well_formed(alloc: Global, graph: &Graph, order: &Order) -> Result<Shape,
     ensures exact { most_looks < thread_total graph.now * vertex_total graph.now → result ≡ Err TooLarge }
 {
     if u64::from(graph.thread_count()) * u64::from(graph.vertex_count()) > 134_217_728 {
-        return Err(ShapeStop::TooLarge);
+        return Err(GraphStop::TooLarge);
     }
     Ok(shape_of(alloc, graph, order)?)
 }
@@ -82,7 +82,7 @@ fn search(
     ensures { MatchOption result (IsThreadWellFormed graph.now order.now.pairs thread) (IsFirstUnfit graph.now order.now.pairs thread) }
 {
     for vertex in 0..graph.vertex_count() {
-        if is_unfit(graph, order, thread, last, first, vertex) {
+        if is_unfit(graph, order, thread, vertex, last, first) {
             return Some(vertex);
         }
     }
@@ -94,9 +94,9 @@ fn is_unfit(
     graph: &Graph,
     order: &Order,
     thread: u32,
+    vertex: u32,
     last: &Vec<bool>,
     first: &Vec<bool>,
-    vertex: u32,
 ) -> bool
     requires thread { thread < thread_total graph.now }
     requires vertex { vertex < vertex_total graph.now }

@@ -1,5 +1,5 @@
 ghost use Rattle.std.specs.Prelude.{◌≡◌};
-ghost use Rattle.cost_graph.specs.declared.stop.ShapeStop.TheVariants.{OutOfMemory};
+ghost use Rattle.cost_graph.specs.declared.stop.GraphStop.TheVariants.{OutOfMemory};
 
 use std::alloc::AllocError;
 
@@ -12,18 +12,18 @@ pub enum Shape {
     Bad(u32, u32),
 }
 
-/// Why it was not found out.
+/// Why a question about all threads and vertices of a graph has no answer.
 #[derive(Clone, Copy, Debug, PartialEq, Eq)]
-pub enum ShapeStop {
+pub enum GraphStop {
     /// Threads times vertices exceeds 134,217,728.
     TooLarge,
     OutOfMemory,
 }
 
-impl From<AllocError> for ShapeStop {
+impl From<AllocError> for GraphStop {
     ghost from_gives = { λ _ stop. stop ≡ OutOfMemory };
 
-    fn from(_: AllocError) -> ShapeStop {
-        ShapeStop::OutOfMemory
+    fn from(_: AllocError) -> GraphStop {
+        GraphStop::OutOfMemory
     }
 }

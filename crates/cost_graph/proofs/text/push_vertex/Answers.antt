@@ -12,9 +12,8 @@ returns-clause-ok c =
     let g = c.args.graph.now in
     let t = c.thread_of-thread.result in
     let own = c.thread_of-thread.ensures in
-    let number = c.number_of-number.result in
-    let named = owned_name g c.args.vertex t number own (c.number_of-number.ensures t own) in
-    let same : path_text c.path_of.result.now ++ (codes ":" ++ decimal number) ≡ vertex_text g c.args.vertex =
-    sym (append_assoc (path_text c.path_of.result.now) (codes ":") (decimal number)) ∙ ap (λ p. path_text p ++ codes ":" ++ decimal number) c.path_of.ensures ∙ ap name_text (sym named) in
+    let named = owned_name g c.args.vertex t c.number_of-number.result own (c.number_of-number.ensures t own) in
+    let same : path_text c.path_of.result.now ++ (codes ":" ++ decimal c.number_of-number.result) ≡ vertex_text g c.args.vertex =
+    sym (append_assoc (path_text c.path_of.result.now) (codes ":") (decimal c.number_of-number.result)) ∙ ap (λ p. path_text p ++ codes ":" ++ decimal c.number_of-number.result) c.path_of.ensures ∙ ap name_text (sym named) in
     let P : List ℕ → Type 0 = λ l. OnOk c.push_path_and.result (string_bytes c.push_path_and.new.text ≡ string_bytes c.args.text.now ++ l) in
     subst P same c.push_path_and.ensures.ok

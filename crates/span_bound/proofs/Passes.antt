@@ -7,7 +7,7 @@ use Rattle.std.proofs.lemmas.List.{get_or-map, get_or-set_same, get_or-set_other
 use Rattle.std.proofs.lemmas.List.Elements.{All-from_get_or}
 use Rattle.cost_graph.specs.Walks.{HasNoCycle}
 use Rattle.cost_graph.specs.Graph.{CostGraph, Edge, IsGraph, IsProperAncestor, vertex_total, parents_at, children_at}
-use Rattle.span_bound.specs.Inside.Words.{AreMarkedForEach, HasBit}
+use Rattle.span_bound.specs.Inside.Words.{AreMarkedForEach, HasBit, Owns}
 use Rattle.span_bound.specs.Inside.Segments.{IsIn, AreSegmentsOf, images, last_of, spread}
 use Rattle.span_bound.proofs.Kinship.{above_same, above_last, beneath_same, beneath_head}
 
@@ -20,10 +20,6 @@ images_below g heads lens slots vs cut h =
     All-from_get_or (λ s. s < length heads) (images slots vs) 0 (λ k lt.
     let k_in : k < length vs = let e = length-map vs (λ v. get_or slots v 0) in omega (arith, lt, e) in
     subst (λ s. s < length heads) (sym (get_or-map (λ v. get_or slots v 0) vs k 0 0 k_in)) (cut.stands (get_or vs k 0) (h k 0 k_in)).0)
-
--- the places of targets in words of segments
-abbrev pub Owns : List ℕ → List ℕ → List ℕ → Type 0
-Owns slots targets own = (i x : ℕ) → i < length targets → (bit_at (get_or own x 0) i ≡ 1) ↔ (x ≡ get_or slots (get_or targets i 0) 0)
 
 pub owns_images : (slots targets own : List ℕ) → ((i x : ℕ) → i < length (images slots targets) → (bit_at (get_or own x 0) i ≡ 1) ↔ (x ≡ get_or (images slots targets) i 0)) → Owns slots targets own
 owns_images slots targets own h i x lt =

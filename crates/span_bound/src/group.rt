@@ -18,28 +18,23 @@ use cost_graph::Graph;
 use priority_order::Order;
 use std::alloc::{AllocError, Global};
 
-// The first vertices of the threads.
-fn firsts_of(alloc: Global, graph: &Graph, threads: &[u32]) -> Result<Vec<u32>, AllocError>
+// The first vertices of the threads, and the last ones.
+fn ends_of(
+    alloc: Global,
+    graph: &Graph,
+    threads: &[u32],
+) -> Result<(Vec<u32>, Vec<u32>), AllocError>
     requires { All (λ t. t < thread_total graph.now) threads.now }
-    ensures { IfOk result (λ firsts. firsts.items ≡ map (first_vertex graph.now) threads.now) }
+    ensures firsts { IfOk result (λ ends. ends.0.items ≡ map (first_vertex graph.now) threads.now) }
+    ensures lasts { IfOk result (λ ends. ends.1.items ≡ map (last_vertex graph.now) threads.now) }
 {
     let mut firsts = Vec::new(alloc);
-    for thread in threads {
-        firsts.push(graph.first_of(*thread))?;
-    }
-    Ok(firsts)
-}
-
-// The last vertices of the threads.
-fn lasts_of(alloc: Global, graph: &Graph, threads: &[u32]) -> Result<Vec<u32>, AllocError>
-    requires { All (λ t. t < thread_total graph.now) threads.now }
-    ensures { IfOk result (λ lasts. lasts.items ≡ map (last_vertex graph.now) threads.now) }
-{
     let mut lasts = Vec::new(alloc);
     for thread in threads {
+        firsts.push(graph.first_of(*thread))?;
         lasts.push(graph.last_of(*thread))?;
     }
-    Ok(lasts)
+    Ok((firsts, lasts))
 }
 
 // A measure of this work and span.
@@ -90,8 +85,7 @@ pub(crate) fn measure_each(
     ensures { IfOk result (λ measures. AreMeasures graph.now order.now.pairs threads.now measures.items) }
 {
     let _count = graph.vertex_count();
-    let firsts = firsts_of(alloc, graph, threads)?;
-    let lasts = lasts_of(alloc, graph, threads)?;
+    let (firsts, lasts) = ends_of(alloc, graph, threads)?;
     let ancestor_marks = ancestors_of_each(alloc, graph, segments, &firsts)?;
     let descendant_marks = descendants_of_each(alloc, graph, segments, &lasts)?;
     let rows = levels_of_each(alloc, graph, segments, &ancestor_marks)?;

@@ -60,5 +60,7 @@ pub record AreSegments (g : CostGraph) (c : Segments) : Type 0 where
   pub cut : AreSegmentsOf g c.heads.items c.lens.items c.slots.items
   pub parents_cover : length c.parents.items ≡ length c.heads.items
   pub children_cover : length c.children.items ≡ length c.heads.items
-  pub parents : (s : ℕ) → s < length c.heads.items → get_or (lists c.parents.items) s [] ≡ images c.slots.items (parents_at g (get_or c.heads.items s 0))
-  pub children : (s : ℕ) → s < length c.heads.items → get_or (lists c.children.items) s [] ≡ images c.slots.items (children_at g (last_of c.heads.items c.lens.items s))
+  pub parents : (s : ℕ) → s < length c.heads.items →
+      get_or (lists c.parents.items) s [] ≡ images c.slots.items (parents_at g (get_or c.heads.items s 0))
+  pub children : (s : ℕ) → s < length c.heads.items →
+      get_or (lists c.children.items) s [] ≡ images c.slots.items (children_at g (last_of c.heads.items c.lens.items s))

@@ -47,7 +47,8 @@ RightAnswer S A at result = Answer (λ t. (read_shared t ≡ S) × (B : Type') �
 
 -- what an operator gives, where A and B are what it takes
 abbrev pub OperatorAnswer : Op → Type' → Type' → ℕ → Result Shared TypeStop → Type 0
-OperatorAnswer op A B at result = Answer (λ t. (read_shared t ≡ gives op) × (A ≡ operand op) × (B ≡ operand op)) ((A ≢ operand op) ⊎ (B ≢ operand op)) Mismatch at result
+OperatorAnswer op A B at result =
+    Answer (λ t. (read_shared t ≡ gives op) × (A ≡ operand op) × (B ≡ operand op)) ((A ≢ operand op) ⊎ (B ≢ operand op)) Mismatch at result
 
 -- the type of what is negated
 abbrev pub TruthAnswer : Type' → ℕ → Result Shared TypeStop → Type 0

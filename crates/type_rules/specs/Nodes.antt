@@ -206,7 +206,8 @@ pub record HasFault (s : Context) (n : Site) (k : TypeKind) : Type 0 where
   pub least : (l : TypeKind) → NodeFails s scope n.node l → rank k ≤ rank l
 
 -- the first element of the list that has no type fails in this way, at this place
-pub record FirstFailure {A : Type 0} (Typed : A → Type 0) (Fails : A → TypeKind → Type 0) (place_of : A → ℕ) (all : List A) (k : TypeKind) (at : ℕ) : Type 0 where
+pub record FirstFailure {A : Type 0} (Typed : A → Type 0) (Fails : A → TypeKind → Type 0)
+    (place_of : A → ℕ) (all : List A) (k : TypeKind) (at : ℕ) : Type 0 where
   pub before : List A
   pub faulty : A
   pub after : List A

@@ -89,7 +89,7 @@ fn type_of_tail<'p>(
             let is_test = is_bool(test);
             let left = type_of_block(alloc, known, procs, scope, r, a)?;
             let right = type_of_block(alloc, known, procs, scope, r, b)?;
-            chosen(is_test, left, right, at)
+            chosen(left, right, is_test, at)
         }
         TailForm::Case(e, a, b) => {
             let test = type_of(alloc, scope, e)?;
@@ -153,9 +153,9 @@ fn joined<'p>(left: Shared<'p>, right: Shared<'p>, at: u64) -> Result<Shared<'p>
 
 // The type of both branches of an `if`, where they have the same and the test is one.
 fn chosen<'p>(
-    is_test: bool,
     left: Shared<'p>,
     right: Shared<'p>,
+    is_test: bool,
     at: u64,
 ) -> Result<Shared<'p>, TypeStop>
     ensures { ChosenAnswer is_test (read_shared left.entry) (read_shared right.entry) at result }
@@ -182,10 +182,9 @@ fn thread_of<'p>(alloc: Global, q: Prio, t: Shared<'p>, at: u64) -> Result<Share
     ensures { ThreadAnswer q (read_shared t.entry) at result }
 {
     if t.nodes() >= 16 {
-        Err(fault(TypeKind::Wide, at))
-    } else {
-        Ok(Shared::thread(alloc, q, t)?)
+        return Err(fault(TypeKind::Wide, at));
     }
+    Ok(Shared::thread(alloc, q, t)?)
 }
 
 // The type of what a thread gives, where r may wait on it.

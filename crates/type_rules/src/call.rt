@@ -1,12 +1,12 @@
 ghost use Rattle.std.specs.Prelude.{◌≡◌, ◌<◌, map, length, MatchResult, IsTrue, ◌↔◌};
 ghost use Rattle.priml_syntax.specs.Tree.{call};
 ghost use Rattle.priml_syntax.specs.Read.{read_sig, read_type, read_term, read_form};
-ghost use Rattle.type_rules.specs.Typing.{HaveTypes, AllInScope, subst_prio, subst_type};
+ghost use Rattle.type_rules.specs.Typing.{HaveTypes, AllInScope, subst_type};
 ghost use Rattle.type_rules.specs.Shared.{read_shared};
 ghost use Rattle.type_rules.specs.Answers.{setting, scope_of, ActAnswer, TermsStop};
 ghost use Rattle.type_rules.specs.Calls.{GivenAnswer};
 
-use crate::shared::{Shared, at_prio};
+use crate::shared::{Shared, subst_prio};
 use crate::term::{fault, type_of};
 use crate::{TypeKind, TypeStop};
 use constraint_proof::Known;
@@ -40,7 +40,7 @@ pub fn type_of_call<'p>(
     if !are_instances(types.as_slice(), ps, params) {
         return Err(fault(TypeKind::Mismatch, at));
     }
-    if !same_prio(at_prio(ps, sig.own), r) {
+    if !same_prio(subst_prio(ps, sig.own), r) {
         return Err(fault(TypeKind::WrongPriority, at));
     }
     if !all_hold(known, ps, sig.given.as_slice()) {
@@ -92,7 +92,7 @@ fn all_hold(known: &Known, ps: &[Prio], given: &[(Prio, Prio)]) -> bool
 {
     for constraint in given {
         let (p, q) = *constraint;
-        if !known.entails(at_prio(ps, p), at_prio(ps, q)) {
+        if !known.entails(subst_prio(ps, p), subst_prio(ps, q)) {
             return false;
         }
     }

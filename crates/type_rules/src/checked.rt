@@ -21,26 +21,6 @@ pub struct Checked {
     order: Order,
 }
 
-impl Model for Checked {
-    ghost use Rattle.priml_syntax.specs.Read.{read_program};
-    ghost use Rattle.priml_syntax.specs.Scoped.{IsScoped};
-    ghost use Rattle.type_rules.specs.Typable.{Typable};
-    ghost use Rattle.type_rules.specs.Stops.{IsOrderOf};
-    ghost use Rattle.priml_syntax.specs.declared.program.Program.{Program};
-    ghost use Rattle.priml_syntax.specs.contracts.ty.Ty as ty;
-    ghost use Rattle.priml_syntax.specs.contracts.expr.Expr as expr;
-    ghost use Rattle.priml_syntax.specs.contracts.block.Block as block;
-    ghost use Rattle.std.specs.Coded.{codes};
-
-    ghost Value = { Program };
-
-    ghost coded = { Prim.hlevel (codes, ty.the_row.coded, expr.the_row.coded, block.the_row.coded) };
-
-    ghost view = { λ c. c.program };
-
-    ghost invariant = { λ c. Typable (read_program c.program) × IsScoped (read_program c.program) × IsOrderOf (read_program c.program) c.order };
-}
-
 impl Checked {
     /// The program that was checked.
     pub fn program(&self) -> &Program
@@ -64,6 +44,26 @@ impl Checked {
     {
         &self.order
     }
+}
+
+impl Model for Checked {
+    ghost use Rattle.priml_syntax.specs.Read.{read_program};
+    ghost use Rattle.priml_syntax.specs.Scoped.{IsScoped};
+    ghost use Rattle.type_rules.specs.Typable.{Typable};
+    ghost use Rattle.type_rules.specs.Stops.{IsOrderOf};
+    ghost use Rattle.priml_syntax.specs.declared.program.Program.{Program};
+    ghost use Rattle.priml_syntax.specs.contracts.ty.Ty as ty;
+    ghost use Rattle.priml_syntax.specs.contracts.expr.Expr as expr;
+    ghost use Rattle.priml_syntax.specs.contracts.block.Block as block;
+    ghost use Rattle.std.specs.Coded.{codes};
+
+    ghost Value = { Program };
+
+    ghost coded = { Prim.hlevel (codes, ty.the_row.coded, expr.the_row.coded, block.the_row.coded) };
+
+    ghost view = { λ c. c.program };
+
+    ghost invariant = { λ c. Typable (read_program c.program) × IsScoped (read_program c.program) × IsOrderOf (read_program c.program) c.order };
 }
 
 /// Checks a program by the typing rules.

@@ -15,20 +15,6 @@ pub struct Job {
     inputs: Inputs,
 }
 
-impl Model for Job {
-    ghost use Rattle.type_rules.specs.Jobs.{WithInputs};
-    ghost use Rattle.priml_syntax.specs.contracts.ty.Ty as ty;
-    ghost use Rattle.priml_syntax.specs.contracts.expr.Expr as expr;
-    ghost use Rattle.priml_syntax.specs.contracts.block.Block as block;
-    ghost use Rattle.std.specs.Coded.{codes};
-
-    ghost Value = { WithInputs };
-
-    ghost coded = { Prim.hlevel (codes, ty.the_row.coded, expr.the_row.coded, block.the_row.coded) };
-
-    ghost view = { λ j. record { program = j.checked; inputs = j.inputs } };
-}
-
 impl Job {
     /// The program with these inputs.
     pub fn new(checked: Checked, inputs: Inputs) -> Job
@@ -64,4 +50,18 @@ impl Job {
     {
         &self.inputs
     }
+}
+
+impl Model for Job {
+    ghost use Rattle.type_rules.specs.Jobs.{WithInputs};
+    ghost use Rattle.std.specs.Coded.{codes};
+    ghost use Rattle.priml_syntax.specs.contracts.ty.Ty as ty;
+    ghost use Rattle.priml_syntax.specs.contracts.expr.Expr as expr;
+    ghost use Rattle.priml_syntax.specs.contracts.block.Block as block;
+
+    ghost Value = { WithInputs };
+
+    ghost coded = { Prim.hlevel (codes, ty.the_row.coded, expr.the_row.coded, block.the_row.coded) };
+
+    ghost view = { λ j. record { program = j.checked; inputs = j.inputs } };
 }

@@ -2,7 +2,7 @@ ghost use Rattle.std.specs.Prelude.{◌≡◌, ◌↔◌, IsTrue, IfOk, ◌-◌,
 ghost use Rattle.priml_syntax.specs.Tree.{unit, int, pair, sum, thread};
 ghost use Rattle.priml_syntax.specs.Read.{read_type};
 ghost use Rattle.priml_syntax.specs.Size.{type_nodes};
-ghost use Rattle.type_rules.specs.Typing.{subst_prio, subst_type};
+ghost use Rattle.type_rules.specs.Typing.{subst_prio as the_subst_prio, subst_type};
 ghost use Rattle.type_rules.specs.Shared.{read_shared, read_shape};
 
 use priml_syntax::{Prio, Ty};
@@ -95,10 +95,10 @@ impl<'p> Shared<'p> {
         ensures { IfOk result (λ s. read_shape s ≡ read_shared self.now) }
     {
         match self {
+            Shared::Written(ps, t) => Ok(written_shape(*ps, *t)),
             Shared::Unit => Ok(Shape::Unit),
             Shared::Bool => Ok(Shape::Bool),
             Shared::Int => Ok(Shape::Int),
-            Shared::Written(ps, t) => Ok(written_shape(*ps, *t)),
             Shared::Pair(parts) => Ok(Shape::Pair(parts.left.copy()?, parts.right.copy()?)),
             Shared::Sum(parts) => Ok(Shape::Sum(parts.left.copy()?, parts.right.copy()?)),
             Shared::Thread(q, a) => Ok(Shape::Thread(*q, a.copy()?)),
@@ -133,7 +133,7 @@ impl<'p> Shared<'p> {
             (Shared::Int, Ty::Int) => true,
             (Shared::Pair(parts), Ty::Pair(c, d)) => parts.left.is(ps, c) && parts.right.is(ps, d),
             (Shared::Sum(parts), Ty::Sum(c, d)) => parts.left.is(ps, c) && parts.right.is(ps, d),
-            (Shared::Thread(q, a), Ty::Thread(r, b)) => *q == at_prio(ps, *r) && a.is(ps, b),
+            (Shared::Thread(q, a), Ty::Thread(r, b)) => *q == subst_prio(ps, *r) && a.is(ps, b),
             _ => false,
         }
     }
@@ -171,7 +171,7 @@ fn written_shape<'p>(ps: &'p [Prio], t: &'p Ty) -> Shape<'p>
         Ty::Int => Shape::Int,
         Ty::Pair(a, b) => Shape::Pair(Shared::Written(ps, a), Shared::Written(ps, b)),
         Ty::Sum(a, b) => Shape::Sum(Shared::Written(ps, a), Shared::Written(ps, b)),
-        Ty::Thread(q, a) => Shape::Thread(at_prio(ps, *q), Shared::Written(ps, a)),
+        Ty::Thread(q, a) => Shape::Thread(subst_prio(ps, *q), Shared::Written(ps, a)),
     }
 }
 
@@ -186,15 +186,15 @@ fn same_written(ps: &[Prio], t: &Ty, qs: &[Prio], u: &Ty) -> bool
         (Ty::Pair(a, b), Ty::Pair(c, d)) => same_written(ps, a, qs, c)
             && same_written(ps, b, qs, d),
         (Ty::Sum(a, b), Ty::Sum(c, d)) => same_written(ps, a, qs, c) && same_written(ps, b, qs, d),
-        (Ty::Thread(p, a), Ty::Thread(q, b)) => at_prio(ps, *p) == at_prio(qs, *q)
+        (Ty::Thread(p, a), Ty::Thread(q, b)) => subst_prio(ps, *p) == subst_prio(qs, *q)
             && same_written(ps, a, qs, b),
         _ => false,
     }
 }
 
 // A priority with priorities for its variables.
-pub fn at_prio(ps: &[Prio], p: Prio) -> Prio
-    ensures { result ≡ subst_prio ps.now p }
+pub fn subst_prio(ps: &[Prio], p: Prio) -> Prio
+    ensures { result ≡ the_subst_prio ps.now p }
 {
     match p {
         Prio::Const(a) => Prio::Const(a),

@@ -132,11 +132,10 @@ fn applied<'p>(op: Op, one: Shared<'p>, other: Shared<'p>, at: u64) -> Result<Sh
 fn negated<'p>(given: Shared<'p>, at: u64) -> Result<Shared<'p>, TypeStop>
     ensures { TruthAnswer (read_shared given.entry) at result }
 {
-    if given.equals(&Shared::Bool) {
-        Ok(Shared::Bool)
-    } else {
-        Err(fault(TypeKind::Mismatch, at))
+    if !given.equals(&Shared::Bool) {
+        return Err(fault(TypeKind::Mismatch, at));
     }
+    Ok(Shared::Bool)
 }
 
 // Whether the pair of the two would have more than 16 nodes.

@@ -26,6 +26,15 @@ returns-then-ps-sig c =
     (sig_at c.args.procs.now c.args.f sig c.requires.known_call c.index-procs-f.is) (map read_shared c.in_ok-types.types.items) c.in_ok-types.ensures
     (inl c.if-ps-sig.true) c.fault.result c.fault.ensures
 
+pub returns-then-not-same_prio : goal.returns-then-not-same_prio
+returns-then-not-same_prio c =
+    let is = sig_at c.args.procs.now c.args.f c.index-procs-f.result c.requires.known_call c.index-procs-f.is in
+    let long = as_long read_term read_type c.args.es.now c.if-es-params.false c.as_slice-params.ensures.value in
+    let fit = as_read read_shared read_type (subst_type c.args.ps.now) c.as_slice.ensures.value (c.are_instances.ensures.0 c.if-not-are_instances.false) c.as_slice-params.ensures.value in
+    stop_wrong (setting c.args.known.now c.args.procs.now) (scope_of c.args.scope.now) c.args.r (read_sig c.index-procs-f.result) c.args.ps.now (map read_term c.args.es.now) c.args.f c.args.at is (map read_shared c.in_ok-types.types.items) c.in_ok-types.ensures c.if-ps-sig.false long fit
+    (λ e. failed c.same_prio.result c.if-not-same_prio.true c.same_prio.ensures.1 (c.subst_prio.ensures ∙ e))
+    c.fault-then-not-same_prio.result c.fault-then-not-same_prio.ensures
+
 pub returns-then-not-are_instances : goal.returns-then-not-are_instances
 returns-then-not-are_instances c =
     let is = sig_at c.args.procs.now c.args.f c.index-procs-f.result c.requires.known_call c.index-procs-f.is in
@@ -35,21 +44,12 @@ returns-then-not-are_instances c =
     (ap (map read_shared) c.as_slice.ensures.value ∙ e ∙ sym (ap (λ xs. map (subst_type c.args.ps.now) (map read_type xs)) c.as_slice-params.ensures.value)))
     c.fault-then-not-are_instances.result c.fault-then-not-are_instances.ensures
 
-pub returns-then-not-same_prio : goal.returns-then-not-same_prio
-returns-then-not-same_prio c =
-    let is = sig_at c.args.procs.now c.args.f c.index-procs-f.result c.requires.known_call c.index-procs-f.is in
-    let long = as_long read_term read_type c.args.es.now c.if-es-params.false c.as_slice-params.ensures.value in
-    let fit = as_read read_shared read_type (subst_type c.args.ps.now) c.as_slice.ensures.value (c.are_instances.ensures.0 c.if-not-are_instances.false) c.as_slice-params.ensures.value in
-    stop_wrong (setting c.args.known.now c.args.procs.now) (scope_of c.args.scope.now) c.args.r (read_sig c.index-procs-f.result) c.args.ps.now (map read_term c.args.es.now) c.args.f c.args.at is (map read_shared c.in_ok-types.types.items) c.in_ok-types.ensures c.if-ps-sig.false long fit
-    (λ e. failed c.same_prio.result c.if-not-same_prio.true c.same_prio.ensures.1 (c.at_prio.ensures ∙ e))
-    c.fault-then-not-same_prio.result c.fault-then-not-same_prio.ensures
-
 pub returns-then-not-all_hold : goal.returns-then-not-all_hold
 returns-then-not-all_hold c =
     let is = sig_at c.args.procs.now c.args.f c.index-procs-f.result c.requires.known_call c.index-procs-f.is in
     let long = as_long read_term read_type c.args.es.now c.if-es-params.false c.as_slice-params.ensures.value in
     let fit = as_read read_shared read_type (subst_type c.args.ps.now) c.as_slice.ensures.value (c.are_instances.ensures.0 c.if-not-are_instances.false) c.as_slice-params.ensures.value in
-    let own = sym c.at_prio.ensures ∙ c.same_prio.ensures.0 c.if-not-same_prio.false in
+    let own = sym c.subst_prio.ensures ∙ c.same_prio.ensures.0 c.if-not-same_prio.false in
     let w = c.if-not-all_hold.ensures in
     stop_constraint (setting c.args.known.now c.args.procs.now) (scope_of c.args.scope.now) c.args.r (read_sig c.index-procs-f.result) c.args.ps.now (map read_term c.args.es.now) c.args.f c.args.at is (map read_shared c.in_ok-types.types.items) c.in_ok-types.ensures c.if-ps-sig.false long fit own
     w.0 (subst (λ xs. Contains xs w.0) c.as_slice-2.ensures.value w.1) w.2
@@ -60,7 +60,7 @@ returns c =
     let is = sig_at c.args.procs.now c.args.f c.index-procs-f.result c.requires.known_call c.index-procs-f.is in
     let long = as_long read_term read_type c.args.es.now c.if-es-params.false c.as_slice-params.ensures.value in
     let fit = as_read read_shared read_type (subst_type c.args.ps.now) c.as_slice.ensures.value (c.are_instances.ensures.0 c.if-not-are_instances.false) c.as_slice-params.ensures.value in
-    let own = sym c.at_prio.ensures ∙ c.same_prio.ensures.0 c.if-not-same_prio.false in
+    let own = sym c.subst_prio.ensures ∙ c.same_prio.ensures.0 c.if-not-same_prio.false in
     let k = c.args.known.now in
     call_fits (setting c.args.known.now c.args.procs.now) (scope_of c.args.scope.now) c.args.r (read_sig c.index-procs-f.result) c.args.ps.now (map read_term c.args.es.now) c.args.f c.args.at is (map read_shared c.in_ok-types.types.items) c.in_ok-types.ensures c.if-ps-sig.false long fit own
     (subst (λ xs. All (λ (d : Constraint). Entailed k.pairs k.given (subst_prio c.args.ps.now d.0) (subst_prio c.args.ps.now d.1)) xs) c.as_slice-2.ensures.value c.if-not-all_hold.ensures) _ refl

@@ -88,7 +88,12 @@ read_pair d = record { at = d.0; pair = (d.1, d.2) }
 
 -- a program, which has one main
 abbrev pub read_program : Program → Tree
-read_program p = record { names = map string_bytes p.names.items; declared = map read_pair p.pairs.items; procs = map read_proc p.procs.items; mains = read_proc p.main ∷ [] }
+read_program p = record {
+  names = map string_bytes p.names.items;
+  declared = map read_pair p.pairs.items;
+  procs = map read_proc p.procs.items;
+  mains = read_proc p.main ∷ [];
+}
 
 -- a value
 abbrev pub read_value : Value → Value'

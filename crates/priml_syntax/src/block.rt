@@ -129,17 +129,6 @@ impl Action {
     }
 }
 
-impl Tail {
-    /// An equal ending.
-    #[cycle(copy)]
-    pub fn copy(&self, alloc: Global) -> Result<Tail, AllocError>
-        ensures { IfOk result (λ t. read_tail t.form t.at ≡ read_tail self.now.form self.now.at) }
-    {
-        let form = self.form.copy(alloc)?;
-        Ok(Tail { at: self.at, form })
-    }
-}
-
 impl TailForm {
     /// An equal form.
     #[cycle(copy)]
@@ -159,5 +148,16 @@ impl TailForm {
                 Ok(TailForm::Case(e, a, boxed(alloc, b.copy(alloc)?)?))
             }
         }
+    }
+}
+
+impl Tail {
+    /// An equal ending.
+    #[cycle(copy)]
+    pub fn copy(&self, alloc: Global) -> Result<Tail, AllocError>
+        ensures { IfOk result (λ t. read_tail t.form t.at ≡ read_tail self.now.form self.now.at) }
+    {
+        let form = self.form.copy(alloc)?;
+        Ok(Tail { at: self.at, form })
     }
 }

@@ -37,17 +37,6 @@ pub enum PathStop {
     OutOfMemory,
 }
 
-impl From<AllocError> for PathStop {
-    ghost use Rattle.std.specs.Prelude.{◌≡◌};
-    ghost use Rattle.priml_syntax.specs.declared.path.PathStop.TheVariants.{OutOfMemory};
-
-    ghost from_gives = { λ _ stop. stop ≡ OutOfMemory };
-
-    fn from(_: AllocError) -> PathStop {
-        PathStop::OutOfMemory
-    }
-}
-
 impl Path {
     /// The path of the first root, `0`.
     pub fn root(alloc: Global) -> Result<Path, AllocError>
@@ -128,5 +117,15 @@ impl Path {
     {
         let parts = Vec::from_slice(alloc, &self.parts)?;
         Ok(Path { parts })
+    }
+}
+
+impl From<AllocError> for PathStop {
+    ghost use Rattle.priml_syntax.specs.declared.path.PathStop.TheVariants.{OutOfMemory};
+
+    ghost from_gives = { λ _ stop. stop ≡ OutOfMemory };
+
+    fn from(_: AllocError) -> PathStop {
+        PathStop::OutOfMemory
     }
 }

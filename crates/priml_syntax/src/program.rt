@@ -6,6 +6,19 @@ use crate::prio::Prio;
 use crate::ty::Ty;
 use std::alloc::{AllocError, Global};
 
+/// A program.
+#[derive(Drop)]
+pub struct Program {
+    /// The names of its priorities, in the order of declaration.
+    pub names: Vec<String>,
+    /// The declared pairs: the byte offset of the word `order`, and the numbers of two priorities, the first of
+    /// which is at most the second.
+    pub pairs: Vec<(u64, u32, u32)>,
+    /// Its procedures, in the order of declaration.
+    pub procs: Vec<Proc>,
+    pub main: Proc,
+}
+
 /// A procedure, or the `main` of a program, which has no variables, constraints or parameters.
 #[derive(Drop)]
 pub struct Proc {
@@ -21,19 +34,6 @@ pub struct Proc {
     pub own: Prio,
     pub result: Ty,
     pub body: Block,
-}
-
-/// A program.
-#[derive(Drop)]
-pub struct Program {
-    /// The names of its priorities, in the order of declaration.
-    pub names: Vec<String>,
-    /// The declared pairs: the byte offset of the word `order`, and the numbers of two priorities, the first of
-    /// which is at most the second.
-    pub pairs: Vec<(u64, u32, u32)>,
-    /// Its procedures, in the order of declaration.
-    pub procs: Vec<Proc>,
-    pub main: Proc,
 }
 
 impl Proc {
@@ -90,7 +90,7 @@ fn types(alloc: Global, list: &[Ty]) -> Result<Vec<Ty>, AllocError>
 fn names(alloc: Global, list: &[String]) -> Result<Vec<String>, AllocError>
     ensures { IfOk result (λ v. map string_bytes v.items ≡ map string_bytes list.now) }
 {
-    let mut all = Vec::new(alloc);
+    let mut all = Vec::with_capacity(alloc, list.len())?;
     for name in list {
         all.push(name.clone()?)?;
     }
@@ -101,7 +101,7 @@ fn names(alloc: Global, list: &[String]) -> Result<Vec<String>, AllocError>
 fn procs(alloc: Global, list: &[Proc]) -> Result<Vec<Proc>, AllocError>
     ensures { IfOk result (λ v. map read_proc v.items ≡ map read_proc list.now) }
 {
-    let mut all = Vec::new(alloc);
+    let mut all = Vec::with_capacity(alloc, list.len())?;
     for f in list {
         all.push(f.copy(alloc)?)?;
     }

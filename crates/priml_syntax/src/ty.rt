@@ -1,6 +1,6 @@
+ghost use Rattle.priml_syntax.specs.Size.{type_nodes};
 ghost use Rattle.std.specs.Prelude.{◌≡◌, ◌↔◌, IsTrue, IfOk, ◌-◌, ◌^◌, min};
 ghost use Rattle.priml_syntax.specs.Read.{read_type};
-ghost use Rattle.priml_syntax.specs.Size.{type_nodes};
 
 use crate::memory::boxed;
 use crate::prio::Prio;

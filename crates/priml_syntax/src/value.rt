@@ -45,8 +45,8 @@ impl Value {
         ensures { IfOk result (λ v. read_value v ≡ read_value self.now) }
     {
         match self {
-            Value::Unit => Ok(Value::Unit),
             Value::Bool(b) => Ok(Value::Bool(*b)),
+            Value::Unit => Ok(Value::Unit),
             Value::Int(n) => Ok(Value::Int(*n)),
             Value::Pair(a, b) => {
                 let a = boxed(alloc, a.copy(alloc)?)?;

@@ -1,3 +1,4 @@
+pub mod Sums
 mod Events
 pub mod States
 mod Steps

@@ -15,7 +15,7 @@ use Rattle.source_tokens.specs.declared.token.Kind.{Kind}
 use Rattle.source_tokens.specs.declared.token.Kind.TheVariants as k
 use Rattle.source_tokens.specs.declared.token.Token.{Token}
 use Rattle.source_tokens.specs.declared.token.Stop.TheVariants as stop
-use Rattle.source_tokens.specs.Lexemes.{is_separator, is_passed, keeps_comment, begins, is_digit, begins_word, is_part, is_word, is_number, word_spelling, sign_spelling, IsLongest}
+use Rattle.source_tokens.specs.Lexemes.{is_separator, ends_gap, Skips, here, separator, is_digit, begins_word, is_part, is_word, is_number, word_spelling, sign_spelling, IsLongest}
 use Rattle.source_tokens.specs.Lexes.{Spells, word, sign, number, old_name, new_name, open_behind, Lexes, next}
 use Rattle.source_tokens.proofs.Signs.{Longer}
 use Rattle.source_tokens.proofs.Longest.{longest_word, longest_number, longest_sign}
@@ -23,34 +23,26 @@ use Rattle.source_maker.proofs.Decimal.{Writes, decimal_writes}
 use Rattle.source_maker.proofs.Names.{is_name, new, taken, length_taken}
 use Rattle.source_maker.proofs.Pieces.{names, Written, a_word, a_sign, a_name, digit, numeral, spelling, kind_of, Piece, render, tokens, depth_behind, counted, count_behind, ends_sign, ends_well, checked}
 
-passed : (b : ℕ) → is_separator b ≡ true → is_passed false b ≡ true
-passed b e = grind (arith, nat_tests)
-
-no_comment : (b : ℕ) → is_separator b ≡ true → keeps_comment false b ≡ false
-no_comment b e = grind (arith, nat_tests)
-
-word_stands : (b : ℕ) → begins_word b ≡ true → is_passed false b ≡ false
+word_stands : (b : ℕ) → begins_word b ≡ true → (not (is_separator b) && not (b == 35)) ≡ true
 word_stands b e = grind (arith, nat_tests)
 
-digit_stands : (b : ℕ) → is_digit b ≡ true → is_passed false b ≡ false
+digit_stands : (b : ℕ) → is_digit b ≡ true → (not (is_separator b) && not (b == 35)) ≡ true
 digit_stands b e = grind (arith, nat_tests)
 
 -- the first byte begins no comment and is no separator
 abbrev Begins : List ℕ → Type 0
-Begins lexeme = (b : ℕ) × (bs : List ℕ) × (lexeme ≡ b ∷ bs) × (is_passed false b ≡ false)
+Begins lexeme = (b : ℕ) × (bs : List ℕ) × (lexeme ≡ b ∷ bs) × (ends_gap (b ∷ bs) ≡ true)
 
-behind_gap : (gap : List ℕ) (b : ℕ) (bs : List ℕ) → list_all is_separator gap ≡ true → is_passed false b ≡ false → begins (gap ++ (b ∷ bs)) ≡ b ∷ bs
-behind_gap [] b bs h stands = rw stands refl
+behind_gap : (gap : List ℕ) (b : ℕ) (bs : List ℕ) → list_all is_separator gap ≡ true → ends_gap (b ∷ bs) ≡ true → Skips (gap ++ (b ∷ bs)) (b ∷ bs)
+behind_gap [] b bs h stands = here stands refl
 behind_gap (g ∷ gap) b bs h stands =
     let parts = and_parts (is_separator g) (list_all is_separator gap) h in
-    let p = passed g parts.0 in
-    let k = no_comment g parts.0 in
-    rw (p, k) (behind_gap gap b bs parts.1 stands)
+    separator g (gap ++ (b ∷ bs)) refl parts.0 (behind_gap gap b bs parts.1 stands)
 
-begins_here : (gap lexeme rest : List ℕ) → list_all is_separator gap ≡ true → Begins lexeme → begins (gap ++ (lexeme ++ rest)) ≡ lexeme ++ rest
+begins_here : (gap lexeme rest : List ℕ) → list_all is_separator gap ≡ true → Begins lexeme → Skips (gap ++ (lexeme ++ rest)) (lexeme ++ rest)
 begins_here gap lexeme rest h first =
     let e = ap (λ l. l ++ rest) first.2 in
-    ap (λ l. begins (gap ++ l)) e ∙ behind_gap gap first.0 (first.1 ++ rest) h first.3 ∙ sym e
+    subst (λ l. Skips (gap ++ l) l) (sym e) (behind_gap gap first.0 (first.1 ++ rest) h first.3)
 
 word_formed : (v : Word) → is_word (word_spelling v) ≡ true
 word_formed w.Priority = refl
@@ -168,7 +160,7 @@ lexes total base (p ∷ ps) at depth count rest more few h e last =
     let there = begins_here p.gap (spelling x) bs outer.0 end.begins in
     let sizes = length-append p.gap (spelling x ++ bs) in
     let size = length-append (spelling x) bs in
-    let place : base + (at + length p.gap) ≡ total - length (begins (p.gap ++ (spelling x ++ bs))) = omega (arith, ap length there, sizes, e) in
+    let place : base + (at + length p.gap) ≡ total - length (spelling x ++ bs) = omega (arith, sizes, e) in
     next (spelling x) bs (kind_of x) (take (counted x count) names) (tokens base (at + length p.gap + length (spelling x)) ps more) there end.longest end.spells
     (λ opening. below depth 64 middle.0)
     (ap (λ a. token a (kind_of x) ∷ tokens base (at + length p.gap + length (spelling x)) ps more) place)

@@ -15,7 +15,8 @@ use Rattle.source_tokens.specs.declared.token.Kind.TheVariants as k
 use Rattle.source_tokens.specs.declared.token.Token.{Token}
 use Rattle.source_tokens.specs.declared.token.Stop.{Stop}
 use Rattle.source_tokens.specs.declared.token.Stop.TheVariants as stop
-use Rattle.source_tokens.specs.Lexemes.{begins, is_word, is_number, is_part, is_digit, begins_word, word_spelling, sign_spelling, IsLongest, BeginsNone}
+use Rattle.source_tokens.specs.Inside.Gaps.{begins}
+use Rattle.source_tokens.specs.Lexemes.{is_word, is_number, is_part, is_digit, begins_word, word_spelling, sign_spelling, IsLongest, BeginsNone}
 use Rattle.source_tokens.specs.Lexes.{IsName, Spells, word, sign, number, old_name, new_name, opens, open_behind, place, Lexes, done, bad_byte, bad_number, too_deep, next}
 use Rattle.source_tokens.specs.Forms.{IsSignAt}
 use Rattle.source_tokens.specs.Laws.{HasTokens}
@@ -23,6 +24,7 @@ use Rattle.source_tokens.proofs.Longest.{byte_begins_none, word_front, word_long
 use Rattle.source_tokens.proofs.Spelled.{spelled}
 use Rattle.source_tokens.proofs.Tables.{words, signs, word_place, sign_place, word_known, sign_known}
 use Rattle.source_tokens.proofs.Lawful.{behind_shorter, lexeme_some}
+use Rattle.source_tokens.proofs.Skips.{skips_to}
 
 -- one of a list that has a property
 record Hit {A : Type 0} (P : A → Type 0) (xs : List A) : Type 0 where
@@ -171,22 +173,22 @@ module _ (n total depth : ℕ) (known : List (List ℕ)) (bs : List ℕ) (within
       goes_on : (IsTrue (opens x.kind) → depth < 64) → Has total depth known bs
       goes_on shallow =
           let more = below (open_behind x.kind depth) x.later rest (omega (arith, within, shorter bs lexeme rest e (lexeme_some lexeme (spelled x.spells)))) in
-          record { tokens = record { at = place total bs; kind = x.kind } ∷ more.tokens; names = more.names; end = more.end; lexes = next lexeme rest x.kind x.later more.tokens e longest x.spells shallow refl more.lexes }
+          record { tokens = record { at = place total (lexeme ++ rest); kind = x.kind } ∷ more.tokens; names = more.names; end = more.end; lexes = next lexeme rest x.kind x.later more.tokens (skips_to e) longest x.spells shallow refl more.lexes }
 
       by : (t : Bool) → opens x.kind ≡ t → (depth < 64) ⊎ (64 ≤ depth) → Has total depth known bs
       by t o (inl shallow) = goes_on (λ h. shallow)
       by false o (inr deep) = goes_on (λ h. absurd (both_ways (opens x.kind) o h))
       by true o (inr deep) =
-          record { tokens = record { at = place total bs; kind = x.kind } ∷ []; names = x.later; end = stop.TooDeep (place total bs); lexes = too_deep lexeme rest x.kind e longest x.spells o deep refl refl }
+          record { tokens = record { at = place total (lexeme ++ rest); kind = x.kind } ∷ []; names = x.later; end = stop.TooDeep (place total (lexeme ++ rest)); lexes = too_deep lexeme rest x.kind (skips_to e) longest x.spells o deep refl refl }
 
   here : (b : ℕ) (tail : List ℕ) → begins bs ≡ b ∷ tail → Front known (b ∷ tail) → Has total depth known bs
   here b tail e (token lexeme rest f longest x) = token_here lexeme rest (e ∙ f) longest x
   here b tail e (large lexeme rest f longest digits big) =
-      record { tokens = []; names = known; end = stop.BadNumber (place total bs); lexes = bad_number lexeme rest (e ∙ f) longest digits big refl refl refl }
-  here b tail e (nothing none) = record { tokens = []; names = known; end = stop.BadByte (place total bs); lexes = bad_byte b tail e none refl refl refl }
+      record { tokens = []; names = known; end = stop.BadNumber (place total (lexeme ++ rest)); lexes = bad_number lexeme rest (skips_to (e ∙ f)) longest digits big refl refl refl }
+  here b tail e (nothing none) = record { tokens = []; names = known; end = stop.BadByte (place total (b ∷ tail)); lexes = bad_byte b tail (skips_to e) none refl refl refl }
 
   from : (us : List ℕ) → begins bs ≡ us → Has total depth known bs
-  from [] e = record { tokens = []; names = known; end = stop.Done; lexes = done e refl refl refl }
+  from [] e = record { tokens = []; names = known; end = stop.Done; lexes = done (skips_to e) refl refl refl }
   from (b ∷ tail) e = here b tail e (front known b tail)
 
 has : (n total depth : ℕ) (known : List (List ℕ)) (bs : List ℕ) → length bs < n → Has total depth known bs

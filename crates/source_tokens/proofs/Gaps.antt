@@ -3,13 +3,14 @@ use Rattle.std.proofs.Common.{◌≡◌, ℕ, ◌<◌, List, [], ◌∷◌, Bool
 use Rattle.std.specs.List.{prefix_len}
 use Rattle.std.proofs.Math.Numerals.{one-add}
 use Rattle.std.proofs.lemmas.Bool.Decides.{nat_tests}
-use Rattle.source_tokens.specs.Lexemes.{is_separator, is_passed, keeps_comment, begins}
+use Rattle.source_tokens.specs.Lexemes.{is_separator}
+use Rattle.source_tokens.specs.Inside.Gaps.{is_passed, keeps_comment, begins}
 use Rattle.source_tokens.proofs.Longest.{run_stops}
 
-passed : (b : ℕ) → is_separator b ≡ true → is_passed false b ≡ true
+pub passed : (b : ℕ) → is_separator b ≡ true → is_passed false b ≡ true
 passed b e = grind (arith, nat_tests)
 
-no_comment : (b : ℕ) → is_separator b ≡ true → keeps_comment false b ≡ false
+pub no_comment : (b : ℕ) → is_separator b ≡ true → keeps_comment false b ≡ false
 no_comment b e = grind (arith, nat_tests)
 
 not_passed : (b : ℕ) → is_separator b ≡ false → (b ≡ 35 → ⊥) → is_passed false b ≡ false

@@ -7,12 +7,14 @@ use Rattle.source_tokens.specs.declared.token.Kind.{Kind}
 use Rattle.source_tokens.specs.declared.token.Kind.TheVariants as k
 use Rattle.source_tokens.specs.declared.token.Token.{Token}
 use Rattle.source_tokens.specs.declared.token.Stop.{Stop}
-use Rattle.source_tokens.specs.Lexemes.{begins, behind, is_passed, keeps_comment, IsLexeme, of_digits}
+use Rattle.source_tokens.specs.Lexemes.{IsLexeme, of_digits}
+use Rattle.source_tokens.specs.Inside.Gaps.{begins, behind, is_passed, keeps_comment}
 use Rattle.source_tokens.specs.Lexes.{IsDistinct, Spells, word, sign, number, old_name, new_name, opens, closes, open_behind, place, Lexes, done, bad_byte, bad_number, too_deep, next, IsLexed}
 use Rattle.source_tokens.specs.Laws.{IsEndFrom, AreInOrder, IsNameBelow, AreNamesBelow, first_deep, deep_place, AreShallow, AreLawful}
 use Rattle.source_tokens.proofs.Longest.{nil_no_lexeme}
 use Rattle.source_tokens.proofs.Spelled.{spelled, spelled_distinct}
 use Rattle.source_tokens.proofs.Once.{no_names}
+use Rattle.source_tokens.proofs.Skips.{begun}
 
 pub behind_shorter : (in_comment : Bool) (bs : List ℕ) → length (behind in_comment bs) ≤ length bs
 behind_shorter in_comment [] = omega arith
@@ -27,17 +29,18 @@ lexeme_some [] is = absurd (nil_no_lexeme is)
 lexeme_some (b ∷ bs) is = omega arith
 
 -- where a token begins, and where the next may
-record IsRoom (total : ℕ) (bs rest : List ℕ) : Type 0 where
-  here : total - length bs ≤ place total bs
-  inside : place total bs < total
-  there : place total bs + 1 ≤ total - length rest
+record IsRoom (total : ℕ) (bs front rest : List ℕ) : Type 0 where
+  here : total - length bs ≤ place total front
+  inside : place total front < total
+  there : place total front + 1 ≤ total - length rest
   left : length rest ≤ total
 
-room : (total : ℕ) (bs lexeme rest : List ℕ) → length bs ≤ total → begins bs ≡ lexeme ++ rest → IsLexeme lexeme → IsRoom total bs rest
+room : (total : ℕ) (bs lexeme rest : List ℕ) → length bs ≤ total → begins bs ≡ lexeme ++ rest → IsLexeme lexeme → IsRoom total bs (lexeme ++ rest) rest
 room total bs lexeme rest within e is =
     let some = lexeme_some lexeme is in
     let shorter = behind_shorter false bs in
-    let parts : length (begins bs) ≡ length lexeme + length rest = ap length e ∙ length-append lexeme rest in
+    let same : length (begins bs) ≡ length (lexeme ++ rest) = ap length e in
+    let parts = length-append lexeme rest in
     record { here = omega arith; inside = omega arith; there = omega arith; left = omega arith }
 
 -- places ascend
@@ -47,17 +50,17 @@ in_order {total} {end = end} from within low (done e t n s) =
     subst (λ u. AreInOrder from total u end) (sym t) (subst (IsEndFrom from total) (sym s) tt)
 in_order {total} {bs = bs} {end = end} from within low (bad_byte b rest e none t n s) =
     let shorter = behind_shorter false bs in
-    let some : length (begins bs) ≡ length (b ∷ rest) = ap length e in
+    let some : length (begins bs) ≡ length (b ∷ rest) = ap length (begun e) in
     subst (λ u. AreInOrder from total u end) (sym t) (subst (IsEndFrom from total) (sym s) (omega arith, omega arith))
 in_order {total} {bs = bs} {end = end} from within low (bad_number lexeme rest e longest digits large t n s) =
-    let r = room total bs lexeme rest within e (of_digits digits) in
+    let r = room total bs lexeme rest within (begun e) (of_digits digits) in
     subst (λ u. AreInOrder from total u end) (sym t) (subst (IsEndFrom from total) (sym s) (omega arith, r.inside))
 in_order {total} {bs = bs} {end = end} from within low (too_deep lexeme rest kind e longest spells opening deep t s) =
-    let r = room total bs lexeme rest within e (spelled spells) in
-    subst (λ u. AreInOrder from total u end) (sym t) (omega arith, r.inside, subst (IsEndFrom (place total bs + 1) total) (sym s) refl)
+    let r = room total bs lexeme rest within (begun e) (spelled spells) in
+    subst (λ u. AreInOrder from total u end) (sym t) (omega arith, r.inside, subst (IsEndFrom (place total (lexeme ++ rest) + 1) total) (sym s) refl)
 in_order {total} {bs = bs} {end = end} from within low (next lexeme rest kind later more e longest spells shallow t tail) =
-    let r = room total bs lexeme rest within e (spelled spells) in
-    subst (λ u. AreInOrder from total u end) (sym t) (omega arith, r.inside, in_order (place total bs + 1) r.left r.there tail)
+    let r = room total bs lexeme rest within (begun e) (spelled spells) in
+    subst (λ u. AreInOrder from total u end) (sym t) (omega arith, r.inside, in_order (place total (lexeme ++ rest) + 1) r.left r.there tail)
 
 -- a number of a name stays below the count of names
 more_names : (kind : Kind) (n m : ℕ) → n ≤ m → IsNameBelow n kind → IsNameBelow m kind
@@ -127,11 +130,11 @@ deep {depth = depth} (bad_byte b rest e none t n s) = ap (first_deep depth) t �
 deep {depth = depth} (bad_number lexeme rest e longest digits large t n s) = ap (first_deep depth) t ∙ ap deep_place (sym s)
 deep {total} {depth = depth} {bs = bs} (too_deep lexeme rest kind e longest spells opening down t s) =
     ap (first_deep depth) t
-    ∙ cond-true (opens kind && nat_le 64 depth) (Some (place total bs)) None (and_from (opens kind) (nat_le 64 depth) opening (le-leb 64 depth down))
+    ∙ cond-true (opens kind && nat_le 64 depth) (Some (place total (lexeme ++ rest))) None (and_from (opens kind) (nat_le 64 depth) opening (le-leb 64 depth down))
     ∙ ap deep_place (sym s)
 deep {total} {depth = depth} {bs = bs} (next lexeme rest kind later more e longest spells shallow t tail) =
     ap (first_deep depth) t
-    ∙ cond-false (opens kind && nat_le 64 depth) (Some (place total bs)) (first_deep (open_behind kind depth) more) (passes kind depth shallow)
+    ∙ cond-false (opens kind && nat_le 64 depth) (Some (place total (lexeme ++ rest))) (first_deep (open_behind kind depth) more) (passes kind depth shallow)
     ∙ deep tail
 
 -- brackets that are open stay few

@@ -5,6 +5,7 @@ pub mod Longest
 pub mod Numbered
 pub mod Once
 pub mod Signs
+pub mod Skips
 pub mod Spelled
 pub mod Steps
 pub mod Worked

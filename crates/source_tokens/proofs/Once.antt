@@ -5,9 +5,12 @@ use Rattle.priml_io.specs.Words.{value_of}
 use Rattle.source_tokens.specs.declared.token.Kind.{Kind}
 use Rattle.source_tokens.specs.declared.token.Token.{Token}
 use Rattle.source_tokens.specs.declared.token.Stop.{Stop}
-use Rattle.source_tokens.specs.Lexemes.{begins, is_number, IsLexeme, of_digits, IsLongest}
+use Rattle.source_tokens.specs.declared.token.Stop.TheVariants as stop
+use Rattle.source_tokens.specs.Lexemes.{Skips, is_number, IsLexeme, of_digits, IsLongest}
 use Rattle.source_tokens.specs.Lexes.{IsDistinct, Spells, opens, open_behind, place, Lexes, done, bad_byte, bad_number, too_deep, next, IsLexed}
+use Rattle.source_tokens.specs.Inside.Gaps.{begins}
 use Rattle.source_tokens.proofs.Longest.{nil_no_lexeme}
+use Rattle.source_tokens.proofs.Skips.{begun}
 use Rattle.source_tokens.proofs.Spelled.{spelled, spelled_small, spelled_once, spelled_distinct}
 
 -- two fronts of one text: they are the same, or one is longer
@@ -76,49 +79,55 @@ too_deep_once k l depth e opening deep shallow = let h = shallow (subst (λ z. I
 abbrev token : ℕ → Kind → Token
 token at kind = record { at = at; kind = kind }
 
-same_tokens : {ts us more last : List Token} {k l : Kind} (at : ℕ) → ts ≡ token at k ∷ more → us ≡ token at l ∷ last → k ≡ l → more ≡ last → ts ≡ us
-same_tokens at e f p q = e ∙ (λ i. token at (p i) ∷ q i) ∙ sym f
+same_place : (total : ℕ) {bs one other : List ℕ} → Skips bs one → Skips bs other → place total one ≡ place total other
+same_place total e f = ap (place total) (sym (begun e) ∙ begun f)
+
+same_end : (total : ℕ) {bs one other : List ℕ} (stop : ℕ → Stop) → Skips bs one → Skips bs other → stop (place total one) ≡ stop (place total other)
+same_end total stop e f = ap stop (same_place total e f)
+
+same_tokens : {ts us more last : List Token} {k l : Kind} {at there : ℕ} → at ≡ there → ts ≡ token at k ∷ more → us ≡ token there l ∷ last → k ≡ l → more ≡ last → ts ≡ us
+same_tokens places e f p q = e ∙ (λ i. token (places i) (p i) ∷ q i) ∙ sym f
 
 once : {total : ℕ} {depth : ℕ} {known : List (List ℕ)} {bs : List ℕ} {ts us : List Token} {ns ms : List (List ℕ)} {s r : Stop}
     → IsDistinct known → Lexes total depth known bs ts ns s → Lexes total depth known bs us ms r → (ts ≡ us) × (ns ≡ ms) × (s ≡ r)
 once d (done e t n s) (done f u m r) = (t ∙ sym u, n ∙ sym m, s ∙ sym r)
-once d (done e t n s) (bad_byte b rest f none u m r) = let clash : [] ≡ b ∷ rest = sym e ∙ f in absurd (cc)
-once {bs = bs} d (done e t n s) (bad_number lexeme rest f longest digits large u m r) = absurd (no_lexeme_left lexeme rest (begins bs) e f (of_digits digits))
-once {bs = bs} d (done e t n s) (too_deep lexeme rest kind f longest spells opening deep u r) = absurd (no_lexeme_left lexeme rest (begins bs) e f (spelled spells))
-once {bs = bs} d (done e t n s) (next lexeme rest kind later more f longest spells shallow u r) = absurd (no_lexeme_left lexeme rest (begins bs) e f (spelled spells))
-once d (bad_byte b rest e none t n s) (done f u m r) = let clash : [] ≡ b ∷ rest = sym f ∙ e in absurd (cc)
-once d (bad_byte b rest e none t n s) (bad_byte c left f never u m r) = (t ∙ sym u, n ∙ sym m, s ∙ sym r)
-once d (bad_byte b rest e none t n s) (bad_number lexeme left f longest digits large u m r) = absurd (none lexeme left (sym e ∙ f) (of_digits digits))
-once d (bad_byte b rest e none t n s) (too_deep lexeme left kind f longest spells opening deep u r) = absurd (none lexeme left (sym e ∙ f) (spelled spells))
-once d (bad_byte b rest e none t n s) (next lexeme left kind later more f longest spells shallow u r) = absurd (none lexeme left (sym e ∙ f) (spelled spells))
-once {bs = bs} d (bad_number lexeme rest e longest digits large t n s) (done f u m r) = absurd (no_lexeme_left lexeme rest (begins bs) f e (of_digits digits))
-once d (bad_number lexeme rest e longest digits large t n s) (bad_byte b left f none u m r) = absurd (none lexeme rest (sym f ∙ e) (of_digits digits))
-once d (bad_number lexeme rest e longest digits large t n s) (bad_number other left f long again huge u m r) = (t ∙ sym u, n ∙ sym m, s ∙ sym r)
+once d (done e t n s) (bad_byte b rest f none u m r) = let clash : [] ≡ b ∷ rest = sym (begun e) ∙ begun f in absurd (cc)
+once {bs = bs} d (done e t n s) (bad_number lexeme rest f longest digits large u m r) = absurd (no_lexeme_left lexeme rest (begins bs) (begun e) (begun f) (of_digits digits))
+once {bs = bs} d (done e t n s) (too_deep lexeme rest kind f longest spells opening deep u r) = absurd (no_lexeme_left lexeme rest (begins bs) (begun e) (begun f) (spelled spells))
+once {bs = bs} d (done e t n s) (next lexeme rest kind later more f longest spells shallow u r) = absurd (no_lexeme_left lexeme rest (begins bs) (begun e) (begun f) (spelled spells))
+once d (bad_byte b rest e none t n s) (done f u m r) = let clash : [] ≡ b ∷ rest = sym (begun f) ∙ begun e in absurd (cc)
+once {total} d (bad_byte b rest e none t n s) (bad_byte c left f never u m r) = (t ∙ sym u, n ∙ sym m, s ∙ same_end total stop.BadByte e f ∙ sym r)
+once d (bad_byte b rest e none t n s) (bad_number lexeme left f longest digits large u m r) = absurd (none lexeme left (sym (begun e) ∙ begun f) (of_digits digits))
+once d (bad_byte b rest e none t n s) (too_deep lexeme left kind f longest spells opening deep u r) = absurd (none lexeme left (sym (begun e) ∙ begun f) (spelled spells))
+once d (bad_byte b rest e none t n s) (next lexeme left kind later more f longest spells shallow u r) = absurd (none lexeme left (sym (begun e) ∙ begun f) (spelled spells))
+once {bs = bs} d (bad_number lexeme rest e longest digits large t n s) (done f u m r) = absurd (no_lexeme_left lexeme rest (begins bs) (begun f) (begun e) (of_digits digits))
+once d (bad_number lexeme rest e longest digits large t n s) (bad_byte b left f none u m r) = absurd (none lexeme rest (sym (begun f) ∙ begun e) (of_digits digits))
+once {total} d (bad_number lexeme rest e longest digits large t n s) (bad_number other left f long again huge u m r) = (t ∙ sym u, n ∙ sym m, s ∙ same_end total stop.BadNumber e f ∙ sym r)
 once {bs = bs} d (bad_number lexeme rest e longest digits large t n s) (too_deep other left kind f long spells opening deep u r) =
-    absurd (no_small lexeme other rest left (begins bs) e f longest long digits large spells)
+    absurd (no_small lexeme other rest left (begins bs) (begun e) (begun f) longest long digits large spells)
 once {bs = bs} d (bad_number lexeme rest e longest digits large t n s) (next other left kind later more f long spells shallow u r) =
-    absurd (no_small lexeme other rest left (begins bs) e f longest long digits large spells)
-once {bs = bs} d (too_deep lexeme rest kind e longest spells opening deep t s) (done f u m r) = absurd (no_lexeme_left lexeme rest (begins bs) f e (spelled spells))
-once d (too_deep lexeme rest kind e longest spells opening deep t s) (bad_byte b left f none u m r) = absurd (none lexeme rest (sym f ∙ e) (spelled spells))
+    absurd (no_small lexeme other rest left (begins bs) (begun e) (begun f) longest long digits large spells)
+once {bs = bs} d (too_deep lexeme rest kind e longest spells opening deep t s) (done f u m r) = absurd (no_lexeme_left lexeme rest (begins bs) (begun f) (begun e) (spelled spells))
+once d (too_deep lexeme rest kind e longest spells opening deep t s) (bad_byte b left f none u m r) = absurd (none lexeme rest (sym (begun f) ∙ begun e) (spelled spells))
 once {bs = bs} d (too_deep lexeme rest kind e longest spells opening deep t s) (bad_number other left f long digits large u m r) =
-    absurd (no_small other lexeme left rest (begins bs) f e long longest digits large spells)
+    absurd (no_small other lexeme left rest (begins bs) (begun f) (begun e) long longest digits large spells)
 once {total} {bs = bs} d (too_deep lexeme rest kind e longest spells opening deep t s) (too_deep other left sort f long means opened down u r) =
-    let one = same_token lexeme other rest left (begins bs) d e f longest long spells means in
-    (same_tokens (place total bs) t u one.kinds refl, one.later, s ∙ sym r)
+    let one = same_token lexeme other rest left (begins bs) d (begun e) (begun f) longest long spells means in
+    (same_tokens (same_place total e f) t u one.kinds refl, one.later, s ∙ same_end total stop.TooDeep e f ∙ sym r)
 once {depth = depth} {bs = bs} d (too_deep lexeme rest kind e longest spells opening deep t s) (next other left sort later more f long means shallow u r) =
-    let one = same_token lexeme other rest left (begins bs) d e f longest long spells means in
+    let one = same_token lexeme other rest left (begins bs) d (begun e) (begun f) longest long spells means in
     absurd (too_deep_once kind sort depth one.kinds opening deep shallow)
-once {bs = bs} d (next lexeme rest kind later more e longest spells shallow t s) (done f u m r) = absurd (no_lexeme_left lexeme rest (begins bs) f e (spelled spells))
-once d (next lexeme rest kind later more e longest spells shallow t s) (bad_byte b left f none u m r) = absurd (none lexeme rest (sym f ∙ e) (spelled spells))
+once {bs = bs} d (next lexeme rest kind later more e longest spells shallow t s) (done f u m r) = absurd (no_lexeme_left lexeme rest (begins bs) (begun f) (begun e) (spelled spells))
+once d (next lexeme rest kind later more e longest spells shallow t s) (bad_byte b left f none u m r) = absurd (none lexeme rest (sym (begun f) ∙ begun e) (spelled spells))
 once {bs = bs} d (next lexeme rest kind later more e longest spells shallow t s) (bad_number other left f long digits large u m r) =
-    absurd (no_small other lexeme left rest (begins bs) f e long longest digits large spells)
+    absurd (no_small other lexeme left rest (begins bs) (begun f) (begun e) long longest digits large spells)
 once {depth = depth} {bs = bs} d (next lexeme rest kind later more e longest spells shallow t s) (too_deep other left sort f long means opened down u r) =
-    let one = same_token lexeme other rest left (begins bs) d e f longest long spells means in
+    let one = same_token lexeme other rest left (begins bs) d (begun e) (begun f) longest long spells means in
     absurd (too_deep_once sort kind depth (sym one.kinds) opened down shallow)
 once {total} {depth} {bs = bs} d (next lexeme rest kind later more e longest spells shallow t s) (next other left sort others last f long means low u r) =
-    let one = same_token lexeme other rest left (begins bs) d e f longest long spells means in
+    let one = same_token lexeme other rest left (begins bs) d (begun e) (begun f) longest long spells means in
     let tail = once (spelled_distinct d spells) s (moved depth kind sort later others rest left one.kinds one.later one.left r) in
-    (same_tokens (place total bs) t u one.kinds tail.0, tail.1, tail.2)
+    (same_tokens (same_place total e f) t u one.kinds tail.0, tail.1, tail.2)
 
 pub no_names : IsDistinct []
 no_names j k n at there = absurd (cc)

@@ -1,5 +1,5 @@
--- The forms of tokens: separators, words, numbers, signs, and the place where a token begins.
-use Rattle.std.specs.Prelude.{◌≡◌, ℕ, ◌+◌, ◌-◌, List, [], ◌∷◌, ◌++◌, Bool, false, not, ◌||◌, ◌&&◌, ◌==◌, nat_le, fold, codes, if◌then◌else◌, IsTrue}
+-- The forms of tokens: words, numbers and signs, and the separators and comments between them.
+use Rattle.std.specs.Prelude.{◌≡◌, ℕ, List, [], ◌∷◌, ◌++◌, Bool, true, false, not, ◌||◌, ◌&&◌, ◌==◌, nat_le, codes, IsTrue}
 use Rattle.std.specs.List.{list_all}
 use Rattle.source_tokens.specs.declared.token.Word.{Word}
 use Rattle.source_tokens.specs.declared.token.Word.TheVariants as w
@@ -10,22 +10,25 @@ use Rattle.source_tokens.specs.declared.token.Sign.TheVariants as s
 abbrev pub is_separator : ℕ → Bool
 is_separator b = (b == 32) || ((b == 9) || ((b == 13) || (b == 10)))
 
--- a byte that is part of no token: inside a comment any byte, outside a separator or the `#` that begins a comment
-abbrev pub is_passed : Bool → ℕ → Bool
-is_passed in_comment b = in_comment || (is_separator b || (b == 35))
+-- no line feed is among the bytes
+abbrev pub is_line : List ℕ → Bool
+is_line bs = list_all (λ b. not (b == 10)) bs
 
--- whether a comment is open behind such a byte: `#` opens one, and a line feed ends it
-abbrev pub keeps_comment : Bool → ℕ → Bool
-keeps_comment in_comment b = if in_comment then not (b == 10) else b == 35
+-- a line ends here: at a line feed, or at the end
+abbrev pub ends_line : List ℕ → Bool
+ends_line [] = true
+ends_line (b ∷ bs) = b == 10
 
--- what is left behind separators and comments of bytes that begin inside a comment or not
-abbrev pub behind : Bool → List ℕ → List ℕ
-behind in_comment [] = []
-behind in_comment (b ∷ bs) = if is_passed in_comment b then behind (keeps_comment in_comment b) bs else b ∷ bs
+-- neither a separator nor a comment, which begins with `#`, stands here
+abbrev pub ends_gap : List ℕ → Bool
+ends_gap [] = true
+ends_gap (b ∷ bs) = not (is_separator b) && not (b == 35)
 
--- what is left of a text behind separators and comments: the next token begins here
-abbrev pub begins : List ℕ → List ℕ
-begins bs = behind false bs
+-- `bs` are separators and comments, each up to the end of its line, and then `left`, where the next token begins
+pub data Skips : List ℕ → List ℕ → Type 0 where
+  here : {bs left : List ℕ} → IsTrue (ends_gap bs) → left ≡ bs → Skips bs left
+  separator : {bs left : List ℕ} (b : ℕ) (more : List ℕ) → bs ≡ b ∷ more → IsTrue (is_separator b) → Skips more left → Skips bs left
+  comment : {bs left : List ℕ} (said more : List ℕ) → bs ≡ 35 ∷ (said ++ more) → IsTrue (is_line said) → IsTrue (ends_line more) → Skips more left → Skips bs left
 
 -- a digit, `0` to `9`
 abbrev pub is_digit : ℕ → Bool

@@ -9,7 +9,7 @@ use Rattle.source_tokens.specs.declared.token.Kind.TheVariants as k
 use Rattle.source_tokens.specs.declared.token.Token.{Token}
 use Rattle.source_tokens.specs.declared.token.Stop.{Stop}
 use Rattle.source_tokens.specs.declared.token.Stop.TheVariants as stop
-use Rattle.source_tokens.specs.Lexemes.{begins, is_word, is_number, word_spelling, sign_spelling, IsLongest, BeginsNone}
+use Rattle.source_tokens.specs.Lexemes.{Skips, is_word, is_number, word_spelling, sign_spelling, IsLongest, BeginsNone}
 
 -- a name has the form of a word and is not reserved
 pub record IsName (lexeme : List ℕ) : Type 0 where
@@ -50,39 +50,39 @@ closes _ = false
 abbrev pub open_behind : Kind → ℕ → ℕ
 open_behind kind depth = if opens kind then depth + 1 else (if closes kind then depth - 1 else depth)
 
--- the offset of the next token of `bs`, the end of a text of `total` bytes
+-- the offset of `left`, the end of a text of `total` bytes
 abbrev pub place : ℕ → List ℕ → ℕ
-place total bs = total - length (begins bs)
+place total left = total - length left
 
 -- the bytes `bs` at the end of a text of `total` bytes are these tokens and end so, where `depth` brackets are open
 -- and `known` are the distinct names before them; `names` are those of the whole text
 pub data Lexes (total : ℕ) : ℕ → List (List ℕ) → List ℕ → List Token → List (List ℕ) → Stop → Type 0 where
   -- nothing is left
   done : {depth : ℕ} {known : List (List ℕ)} {bs : List ℕ} {tokens : List Token} {names : List (List ℕ)} {end : Stop}
-      → begins bs ≡ [] → tokens ≡ [] → names ≡ known → end ≡ stop.Done
+      → Skips bs [] → tokens ≡ [] → names ≡ known → end ≡ stop.Done
       → Lexes total depth known bs tokens names end
   -- something is left, and no front of it is a lexeme
   bad_byte : {depth : ℕ} {known : List (List ℕ)} {bs : List ℕ} {tokens : List Token} {names : List (List ℕ)} {end : Stop}
-      (b : ℕ) (rest : List ℕ) → begins bs ≡ b ∷ rest → BeginsNone (b ∷ rest)
-      → tokens ≡ [] → names ≡ known → end ≡ stop.BadByte (place total bs)
+      (b : ℕ) (rest : List ℕ) → Skips bs (b ∷ rest) → BeginsNone (b ∷ rest)
+      → tokens ≡ [] → names ≡ known → end ≡ stop.BadByte (place total (b ∷ rest))
       → Lexes total depth known bs tokens names end
   -- the whole run of digits has too large a value
   bad_number : {depth : ℕ} {known : List (List ℕ)} {bs : List ℕ} {tokens : List Token} {names : List (List ℕ)} {end : Stop}
-      (lexeme rest : List ℕ) → begins bs ≡ lexeme ++ rest → IsLongest lexeme rest → IsTrue (is_number lexeme) → 2 ^ 63 ≤ value_of lexeme
-      → tokens ≡ [] → names ≡ known → end ≡ stop.BadNumber (place total bs)
+      (lexeme rest : List ℕ) → Skips bs (lexeme ++ rest) → IsLongest lexeme rest → IsTrue (is_number lexeme) → 2 ^ 63 ≤ value_of lexeme
+      → tokens ≡ [] → names ≡ known → end ≡ stop.BadNumber (place total (lexeme ++ rest))
       → Lexes total depth known bs tokens names end
   -- a bracket opens while 64 are open
   too_deep : {depth : ℕ} {known : List (List ℕ)} {bs : List ℕ} {tokens : List Token} {names : List (List ℕ)} {end : Stop}
-      (lexeme rest : List ℕ) (kind : Kind) → begins bs ≡ lexeme ++ rest → IsLongest lexeme rest → Spells known lexeme kind names
+      (lexeme rest : List ℕ) (kind : Kind) → Skips bs (lexeme ++ rest) → IsLongest lexeme rest → Spells known lexeme kind names
       → IsTrue (opens kind) → 64 ≤ depth
-      → tokens ≡ record { at = place total bs; kind = kind } ∷ [] → end ≡ stop.TooDeep (place total bs)
+      → tokens ≡ record { at = place total (lexeme ++ rest); kind = kind } ∷ [] → end ≡ stop.TooDeep (place total (lexeme ++ rest))
       → Lexes total depth known bs tokens names end
   -- a token and what follows it
   next : {depth : ℕ} {known : List (List ℕ)} {bs : List ℕ} {tokens : List Token} {names : List (List ℕ)} {end : Stop}
       (lexeme rest : List ℕ) (kind : Kind) (later : List (List ℕ)) (more : List Token)
-      → begins bs ≡ lexeme ++ rest → IsLongest lexeme rest → Spells known lexeme kind later
+      → Skips bs (lexeme ++ rest) → IsLongest lexeme rest → Spells known lexeme kind later
       → (IsTrue (opens kind) → depth < 64)
-      → tokens ≡ record { at = place total bs; kind = kind } ∷ more
+      → tokens ≡ record { at = place total (lexeme ++ rest); kind = kind } ∷ more
       → Lexes total (open_behind kind depth) later rest more names end
       → Lexes total depth known bs tokens names end
 

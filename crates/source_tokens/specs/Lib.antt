@@ -1,4 +1,5 @@
 pub mod Forms
+pub mod Inside
 pub mod Laws
 pub mod Lexemes
 pub mod Lexer

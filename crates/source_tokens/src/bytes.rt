@@ -1,7 +1,8 @@
 //! Bytes, and the runs of them that stand between tokens and in words and numbers.
 ghost use Rattle.std.specs.Prelude.{◌≡◌, ◌<◌, ◌≤◌, ◌^◌, length, IfSome, IfNone};
 ghost use Rattle.std.specs.List.{prefix_len};
-ghost use Rattle.source_tokens.specs.Lexemes.{is_separator, is_passed, keeps_comment, begins, is_digit, begins_word, is_part};
+ghost use Rattle.source_tokens.specs.Lexemes.{is_separator, is_digit, begins_word, is_part};
+ghost use Rattle.source_tokens.specs.Inside.Gaps.{is_passed, keeps_comment, begins};
 ghost use Rattle.priml_io.specs.Words.{value_of};
 
 use priml_io::capped_value;

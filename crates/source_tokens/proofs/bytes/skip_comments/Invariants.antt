@@ -1,5 +1,5 @@
 use Rattle.std.proofs.Common.{length, ◌-◌, ◌≡◌, ◌≤◌, drop}
-use Rattle.source_tokens.specs.Lexemes.{behind, begins}
+use Rattle.source_tokens.specs.Inside.Gaps.{behind, begins}
 use Rattle.source_tokens.proofs.bytes.skip_comments.Given as goal
 
 abbrev pub invariant-loop-at : goal.invariant-loop-at

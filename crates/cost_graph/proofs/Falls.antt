@@ -4,8 +4,8 @@ use Rattle.std.specs.List.{Contains}
 use Rattle.std.proofs.lemmas.List.{length-set}
 use Rattle.std.proofs.lemmas.List.Sums.{sum_by-set}
 use Rattle.std.proofs.lemmas.Bool.{false_from_ne_true, cond-false}
-use Rattle.cost_graph.specs.Marks.{is_marked, marks_after}
-use Rattle.cost_graph.specs.Inside.Marks.{unmarked}
+use Rattle.cost_graph.specs.Marks.{is_marked}
+use Rattle.cost_graph.specs.Inside.Marks.{unmarked, marks_after}
 use Rattle.cost_graph.proofs.Members.{member_head, member_tail}
 
 fewer : (marks : List Bool) (v : ℕ) → v < length marks → unmarked (set marks v true) ≤ unmarked marks

@@ -7,8 +7,8 @@ use Rattle.std.proofs.lemmas.List.{get_or-set_same, get_or-set_other, length-set
 use Rattle.std.proofs.lemmas.List.Elements.{All-contains, All-from_get_or, Contains-get_or, Contains-append_left, Contains-append_right, Contains-append_cases}
 use Rattle.std.proofs.lemmas.List.Sums.{AllPass-from_list_all, list_all-from_AllPass}
 use Rattle.cost_graph.specs.Graph.{CostGraph, vertex_total, Edge, parents_at, children_at, is_edge}
-use Rattle.cost_graph.specs.Marks.{is_marked, IsReady, BecomesReady, IsDone, marks_after}
-use Rattle.cost_graph.specs.Inside.Marks.{is_free, freed_by}
+use Rattle.cost_graph.specs.Marks.{is_marked, IsReady, BecomesReady, IsDone}
+use Rattle.cost_graph.specs.Inside.Marks.{is_free, freed_by, marks_after}
 use Rattle.cost_graph.proofs.Members.{decides_eq, member_or_not, no_member, member_cons, member_head, member_tail}
 use Rattle.cost_graph.proofs.Ranges.{in_range, in_filter, from_filter, out_filter}
 

@@ -1,5 +1,5 @@
 -- What is ready; marks on the vertices that have run, and what a step frees.
-use Rattle.std.specs.Prelude.{◌≡◌, ℕ, ◌<◌, ◌≤◌, ◌↔◌, List, [], ◌∷◌, length, get_or, set, Bool, false, true}
+use Rattle.std.specs.Prelude.{◌≡◌, ℕ, ◌<◌, ◌≤◌, ◌↔◌, List, length, get_or, Bool, false, true}
 use Rattle.std.specs.List.{Contains}
 use Rattle.cost_graph.specs.Graph.{CostGraph, Edge, vertex_total, parents_at}
 
@@ -28,8 +28,3 @@ pub record IsDone (g : CostGraph) (marks : List Bool) (done : List ℕ) : Type 0
   pub size : length marks ≡ vertex_total g
   pub agree : (v : ℕ) → (is_marked marks v ≡ true) ↔ Contains done v
   pub closed : (u v : ℕ) → Edge g u v → Contains done v → Contains done u
-
--- the marks after these vertices
-abbrev pub marks_after : List Bool → List ℕ → List Bool
-marks_after marks [] = marks
-marks_after marks (v ∷ vs) = marks_after (set marks v true) vs

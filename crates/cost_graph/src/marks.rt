@@ -1,8 +1,8 @@
 ghost use Rattle.std.specs.Prelude.{◌≡◌, ℕ, ◌+◌, ◌<◌, ◌≤◌, length, ◌++◌, true, false, slice_index, slice_set, OnOk, OnErr, IfOk, IfSome, ◌==◌, vec_len, vec_capacity};
 ghost use Rattle.std.specs.List.{All, filter, list_all, range_with_len, sum_by};
 ghost use Rattle.cost_graph.specs.Graph.{vertex_total, parents_at, children_at};
-ghost use Rattle.cost_graph.specs.Marks.{is_marked, IsSeen, marks_after};
-ghost use Rattle.cost_graph.specs.Inside.Marks.{is_free, freed_by};
+ghost use Rattle.cost_graph.specs.Marks.{is_marked, IsSeen};
+ghost use Rattle.cost_graph.specs.Inside.Marks.{is_free, freed_by, marks_after};
 
 use crate::graph::Graph;
 use std::alloc::{AllocError, Global};

@@ -6,7 +6,8 @@ use Rattle.std.proofs.lemmas.List.Elements.{Contains-append_left, Contains-appen
 use Rattle.std.proofs.lemmas.Bool.{cases_lt, both_ways}
 use Rattle.std.proofs.lemmas.List.{length-set, take_more}
 use Rattle.std.proofs.Math.Seq.{take-length}
-use Rattle.cost_graph.specs.Marks.{is_marked, marks_after}
+use Rattle.cost_graph.specs.Marks.{is_marked}
+use Rattle.cost_graph.specs.Inside.Marks.{marks_after}
 use Rattle.prompt_checker.specs.Inside.Watch.{IsFound, WasMarked, AreStood, StandsAgain}
 use Rattle.cost_graph.proofs.Members.{in_take}
 use Rattle.cost_graph.proofs.ReadyNext.{after_marked, marked_after}

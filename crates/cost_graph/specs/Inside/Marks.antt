@@ -4,6 +4,11 @@ use Rattle.std.specs.List.{list_all, filter, sum_by}
 use Rattle.cost_graph.specs.Graph.{CostGraph, parents_at, children_at}
 use Rattle.cost_graph.specs.Marks.{is_marked}
 
+-- the marks after these vertices
+abbrev pub marks_after : List Bool → List ℕ → List Bool
+marks_after marks [] = marks
+marks_after marks (v ∷ vs) = marks_after (set marks v true) vs
+
 -- each parent of v is marked
 abbrev pub is_free : CostGraph → List Bool → ℕ → Bool
 is_free g marks v = list_all (is_marked marks) (parents_at g v)

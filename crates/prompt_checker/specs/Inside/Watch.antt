@@ -5,7 +5,8 @@ use Rattle.std.specs.BTreeSet.{BTreeSet, contains}
 use Rattle.std.specs.Ordering.{nat_cmp}
 use Rattle.priority_order.specs.Order.{IsBelow}
 use Rattle.cost_graph.specs.Graph.{CostGraph, Edge, vertex_priority}
-use Rattle.cost_graph.specs.Marks.{is_marked, marks_after}
+use Rattle.cost_graph.specs.Marks.{is_marked}
+use Rattle.cost_graph.specs.Inside.Marks.{marks_after}
 use Rattle.prompt_checker.specs.Verdict.{IsFirstOf, IsLeast}
 use Rattle.prompt_checker.specs.declared.schedule.FlawKind.{FlawKind}
 use Rattle.prompt_checker.specs.declared.schedule.FlawKind.TheVariants.{EmptyStep, TooWide, Twice, NotReady, IdleCore, Inverted, Unfinished}

@@ -2,8 +2,7 @@ use Rattle.std.proofs.Common.{◌≡◌, ◌+◌, ◌≤◌, ◌++◌, length, d
 use Rattle.std.specs.List.{sum_by}
 use Rattle.cost_graph.specs.Graph.{children_at}
 use Rattle.cost_graph.specs.Marks.{IsSeen}
-use Rattle.cost_graph.specs.Marks.{marks_after}
-use Rattle.cost_graph.specs.Inside.Marks.{freed_by}
+use Rattle.cost_graph.specs.Inside.Marks.{freed_by, marks_after}
 use Rattle.cost_graph.proofs.marks.run_step.Given as goal
 
 abbrev pub invariant-loop-vertex : goal.invariant-loop-vertex

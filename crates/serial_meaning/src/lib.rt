@@ -3,8 +3,6 @@
 
 mod outcome;
 mod serial;
-#[cfg(test)]
-mod tests;
 mod text;
 mod written;
 

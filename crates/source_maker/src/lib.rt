@@ -2,7 +2,5 @@
 #![tactic(auto)]
 
 mod maker;
-#[cfg(test)]
-mod tests;
 
 pub use maker::make;

@@ -5,8 +5,6 @@ mod book;
 mod log;
 mod records;
 mod segment;
-#[cfg(test)]
-mod tests;
 mod text;
 
 pub use book::Book;

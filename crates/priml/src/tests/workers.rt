@@ -1,8 +1,9 @@
 //! The commands that run on workers.
 
+use crate::laws::priml_steady;
 use crate::still::priml_still;
 use crate::top::priml;
-use priml_io::{MemSink, MemSource};
+use priml_io::{MemSink, MemSource, SteadySink, SteadySource};
 use std::alloc::{AllocError, Global};
 use std::test::Fail;
 use steal_runtime::{Free, Meet};
@@ -110,5 +111,16 @@ fn a_sample_reads_nothing(rt: HostRuntime) -> Result<(), Fail> {
         sink.bytes(),
         b"sample 1000 threads 1002 work 10009 outputs 1001 steps 6007 value 1000\n".as_slice()
     );
+    Ok(())
+}
+
+#[test]
+fn ends_that_never_fail(rt: HostRuntime) -> Result<(), Fail> {
+    let words = list(rt.alloc(), &["run", "2", "2", "2", "100000"])?;
+    let mut source = SteadySource::new(rt.alloc(), SUMS)?;
+    let mut sink = SteadySink::new(rt.alloc(), 65_536)?;
+    let status = priml_steady(&rt, rt.alloc(), &words, &mut source, &mut sink, &Free);
+    assert_eq!(rt; status, 0);
+    assert_eq!(rt; sink.bytes(), REPORT);
     Ok(())
 }

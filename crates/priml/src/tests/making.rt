@@ -1,6 +1,6 @@
 //! The source that is made of 1.
 
-use crate::make;
+use source_maker::make;
 use std::test::Fail;
 
 #[test]

@@ -1,10 +1,10 @@
 //! The logs of two threads, and their book.
 ghost use Rattle.std.specs.Prelude.{◌≡◌, IfOk};
 
-use crate::{AppendStop, Book, Segment, ThreadLog};
 use priml_syntax::{Event, Outcome, Path, Value};
 use std::alloc::{AllocError, Global};
 use std::test::Fail;
+use trace_book::{AppendStop, Book, Segment, ThreadLog};
 
 /// Appends these steps, made by worker 0, to the log; an End ends the thread with the number 5. What the log answers, with the
 /// length that it names.

@@ -5,9 +5,9 @@ ghost use Rattle.priml_syntax.specs.Read.{read_record};
 ghost use Rattle.priml_syntax.specs.Records.{InPathOrder};
 ghost use Rattle.priml_syntax.specs.declared.record.Record.{Record as TheRecord};
 
-use crate::run_text;
 use priml_syntax::{Event, Outcome, Path, Record, Records, Value};
 use priority_order::Order;
+use serial_meaning::run_text;
 use std::alloc::{AllocError, Global};
 use std::test::Fail;
 

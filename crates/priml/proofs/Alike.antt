@@ -12,8 +12,8 @@ use Rattle.priml.specs.declared.refusal.Stop.{Stop}
 use Rattle.priml.specs.Chain.{◌⇒◌, Never, layer}
 use Rattle.priml.specs.Layers as the
 use Rattle.priml.specs.Lines.{steps_line}
-use Rattle.priml.specs.Prefixes.{IsChecked, NoRecords, IsReady, IsRecorded}
-use Rattle.priml.specs.Reply.{Stops, StopsAs}
+use Rattle.priml.specs.Inside.Prefixes.{IsChecked, NoRecords, IsReady, IsRecorded}
+use Rattle.priml.specs.Inside.Reply.{Stops, StopsAs}
 use Rattle.priml.specs.Runs.{Inputs, AreAlike, job_with}
 use Rattle.priml.proofs.Chains.{behind_program, stopped, stopped_behind}
 

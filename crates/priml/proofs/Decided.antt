@@ -48,7 +48,7 @@ use Rattle.priml.specs.Commands.{WithProgram, WithRecords, WithGraph, Reports, P
 use Rattle.priml.specs.Headline.{Are}
 use Rattle.priml.specs.Laws.{WordsAreAnswered}
 use Rattle.priml.specs.Layers as the
-use Rattle.priml.specs.Prefixes.{IsChecked, IsRecorded, IsGraphed, IsSound}
+use Rattle.priml.specs.Inside.Prefixes.{IsChecked, IsRecorded, IsGraphed, IsSound}
 use Rattle.priml.specs.Runs.{job_with}
 use Rattle.priml.specs.Texts.{ok_text, run_text, report_text, summary_text}
 use Rattle.priml.proofs.Layered.{Decides, IsSome, layer_decides}

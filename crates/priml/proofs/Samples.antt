@@ -23,7 +23,7 @@ use Rattle.priml.specs.declared.refusal.Stop.TheVariants.{Refused, ReadFault, Ou
 use Rattle.priml.specs.Chain.{Answer, ◌⇒◌, Says, sure}
 use Rattle.priml.specs.Commands.{Sampled}
 use Rattle.priml.specs.Layers as the
-use Rattle.priml.specs.Reply.{Stops, StopsAs, Replies}
+use Rattle.priml.specs.Inside.Reply.{Stops, StopsAs, Replies}
 use Rattle.priml.specs.Runs.{job_with}
 use Rattle.priml.specs.Texts.{summary_text}
 use Rattle.priml.proofs.Chains.{stopped, stopped_behind, passed}

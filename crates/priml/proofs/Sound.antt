@@ -24,7 +24,7 @@ use Rattle.cost_graph.proofs.Carried.{same_acyclic, same_well_formed}
 use Rattle.cost_graph.proofs.Parts.{AreApart, apart_of}
 use Rattle.cost_graph.proofs.SomeGraph as graphs
 use Rattle.priml.specs.Layers as the
-use Rattle.priml.specs.Prefixes.{IsRecorded, IsSound}
+use Rattle.priml.specs.Inside.Prefixes.{IsRecorded, IsSound}
 use Rattle.priml.specs.Runs.{Inputs, job_with}
 
 -- a program that stands for a text and is typable is checked, with whatever its threads read

@@ -1,5 +1,5 @@
 //! The layers on cost graphs: the graph of a run, its plan, and the rows of a report.
-ghost use Rattle.std.specs.Prelude.{◌≡◌, ◌↔◌, ◌<◌, ◌≤◌, ◌++◌, ℕ, List, [], unwrap_or, length, map, IfOk, IfErr, OnOk};
+ghost use Rattle.std.specs.Prelude.{◌≡◌, ◌↔◌, ◌<◌, ◌≤◌, ◌++◌, ℕ, List, [], unwrap_or, length, map, IfOk, IfErr};
 ghost use Rattle.std.specs.List.{All};
 ghost use Rattle.priml_io.specs.Sections.{bytes_of};
 ghost use Rattle.priml_syntax.specs.Read.{read_record};
@@ -15,8 +15,8 @@ ghost use Rattle.response_report.specs.Response.{AreRows};
 ghost use Rattle.response_report.specs.Text.{response_lines};
 ghost use Rattle.priml.specs.Commands.{Reports};
 ghost use Rattle.priml.specs.Layers as the;
-ghost use Rattle.priml.specs.Prefixes.{IsSound};
-ghost use Rattle.priml.specs.Reply.{Hands, Stops, Replies};
+ghost use Rattle.priml.specs.Inside.Prefixes.{IsSound};
+ghost use Rattle.priml.specs.Inside.Reply.{Hands, Stops, Replies};
 
 use crate::layers::{done, section};
 use crate::refusal::{Stop, flaw_refusal, report_too_large, schedule_stop};

@@ -1,5 +1,5 @@
 //! The run of a job on workers, as the layer of runs.
-ghost use Rattle.std.specs.Prelude.{◌≡◌, ◌<◌, ◌≤◌, length, map, IfOk, IfErr};
+ghost use Rattle.std.specs.Prelude.{◌≡◌, ◌<◌, length, map, IfOk, IfErr};
 ghost use Rattle.std.specs.List.{All};
 ghost use Rattle.priml_syntax.specs.Read.{read_record};
 ghost use Rattle.priml_syntax.specs.declared.record.Record.{Record as TheRecord};
@@ -8,7 +8,7 @@ ghost use Rattle.core_steps.specs.Moves.{read_job};
 ghost use Rattle.cost_graph.specs.Records.{parts_in, AreFinished};
 ghost use Rattle.steal_runtime.specs.Runs.{IsRun};
 ghost use Rattle.priml.specs.Layers as the;
-ghost use Rattle.priml.specs.Reply.{Hands, IsTeam, Stops};
+ghost use Rattle.priml.specs.Inside.Reply.{Hands, IsTeam};
 
 use crate::refusal::{Stop, too_many_steps};
 use core_steps::job_is_checked;

@@ -1,7 +1,7 @@
 use Rattle.std.proofs.Common.{rules, ◌≡◌, Result, Ok, Err, IfErr, subst, sym}
 use Rattle.std.specs.Process.{exit_status}
 use Rattle.priml.specs.Lines.{memory_line}
-use Rattle.priml.specs.Reply.{Wrote}
+use Rattle.priml.specs.Inside.Reply.{Wrote}
 use Rattle.priml.specs.Streams.{sink_run}
 use Rattle.priml.proofs.run.Goals as goal
 use Rattle.priml.proofs.run.Goals.{in-Ok, in-Err, in-Err-2}

@@ -2,7 +2,7 @@
 ghost use Rattle.std.specs.Prelude.{◌<◌, ◌≤◌, ◌^◌};
 ghost use Rattle.priml_io.specs.declared.words.Command.{Command};
 ghost use Rattle.priml.specs.Commands.{Of};
-ghost use Rattle.priml.specs.Reply.{Replies};
+ghost use Rattle.priml.specs.Inside.Reply.{Replies};
 
 use crate::graphs::{prompt, report, schedule};
 use crate::prefixes::graphed;

@@ -8,8 +8,8 @@ ghost use Rattle.priml_syntax.specs.declared.record.Record.{Record as TheRecord}
 ghost use Rattle.priority_order.specs.Order.{Names};
 ghost use Rattle.type_rules.specs.Stops.{IsOrderOf};
 ghost use Rattle.priml.specs.Commands.{Of, Planned};
-ghost use Rattle.priml.specs.Prefixes.{IsGraphed, IsSound};
-ghost use Rattle.priml.specs.Reply.{Replies};
+ghost use Rattle.priml.specs.Inside.Prefixes.{IsGraphed, IsSound};
+ghost use Rattle.priml.specs.Inside.Reply.{Replies};
 
 use crate::graphs::{plan, report as the_report};
 use crate::prefixes::graphed;

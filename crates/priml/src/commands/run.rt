@@ -2,7 +2,7 @@
 ghost use Rattle.std.specs.Prelude.{◌≤◌};
 ghost use Rattle.priml_io.specs.declared.words.Command.{Command};
 ghost use Rattle.priml.specs.Commands.{Of};
-ghost use Rattle.priml.specs.Reply.{IsTeam, Replies};
+ghost use Rattle.priml.specs.Inside.Reply.{IsTeam, Replies};
 
 use crate::commands::report::planned;
 use crate::prefixes::graphed_on_workers;

@@ -1,15 +1,12 @@
 //! `sample`: a run on workers of the program that is made of a number.
-ghost use Rattle.std.specs.Prelude.{◌≡◌, ◌<◌, ◌≤◌, ◌++◌, ℕ, List, [], map, length, IfOk, IfErr};
-ghost use Rattle.priml_io.specs.declared.words.Command.{Command};
-ghost use Rattle.priml_syntax.specs.Read.{read_record};
+ghost use Rattle.std.specs.Prelude.{◌≡◌, ◌<◌, ◌≤◌, [], IfOk, IfErr};
 ghost use Rattle.priml_syntax.specs.Tree.{Tree};
-ghost use Rattle.prompt_checker.specs.Read.{steps_of};
 ghost use Rattle.core_steps.specs.Moves.{read_job};
 ghost use Rattle.source_maker.specs.Text.{made_text};
 ghost use Rattle.source_reader.specs.Stands.{Stands};
 ghost use Rattle.type_rules.specs.Typable.{Typable};
 ghost use Rattle.priml.specs.Commands.{Sampled};
-ghost use Rattle.priml.specs.Reply.{IsTeam, Replies};
+ghost use Rattle.priml.specs.Inside.Reply.{IsTeam, Replies};
 ghost use Rattle.priml.specs.Runs.{job_with};
 
 use crate::graphs::{graph, plan};

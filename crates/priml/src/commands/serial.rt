@@ -1,7 +1,7 @@
 //! `serial`: the run of the program, each thread whole before its parent goes on.
 ghost use Rattle.priml_io.specs.declared.words.Command.{Command};
 ghost use Rattle.priml.specs.Commands.{Of};
-ghost use Rattle.priml.specs.Reply.{Replies};
+ghost use Rattle.priml.specs.Inside.Reply.{Replies};
 
 use crate::layers::done;
 use crate::prefixes::recorded;

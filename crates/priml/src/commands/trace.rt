@@ -9,7 +9,7 @@ ghost use Rattle.trace_book.specs.Book.{IsInPathOrder};
 ghost use Rattle.trace_book.specs.CutsText.{log_lines};
 ghost use Rattle.trace_book.specs.Log.{Log};
 ghost use Rattle.priml.specs.Commands.{Of};
-ghost use Rattle.priml.specs.Reply.{IsTeam, Replies};
+ghost use Rattle.priml.specs.Inside.Reply.{IsTeam, Replies};
 
 use crate::layers::done;
 use crate::prefixes::recorded_on_workers;

@@ -1,7 +1,7 @@
 use Rattle.std.proofs.Common.{subst, sym}
 use Rattle.priml.specs.Commands.{Of}
 use Rattle.priml.specs.Layers.{UsesWorkers}
-use Rattle.priml.specs.Reply.{IsInRange, Replies}
+use Rattle.priml.specs.Inside.Reply.{IsInRange, Replies}
 use Rattle.priml.proofs.answer.answer.Goals as goal
 
 pub returns-in-Check : goal.returns-in-Check

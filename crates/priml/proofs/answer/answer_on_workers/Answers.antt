@@ -1,6 +1,6 @@
 use Rattle.std.proofs.Common.{subst, sym}
 use Rattle.priml.specs.Commands.{Of}
-use Rattle.priml.specs.Reply.{Replies}
+use Rattle.priml.specs.Inside.Reply.{Replies}
 use Rattle.priml.proofs.Replied.{not_read, replied, handed}
 use Rattle.priml.proofs.answer.answer_on_workers.Goals as goal
 

@@ -3,7 +3,7 @@ use Rattle.priml_io.specs.Lines.{lines}
 use Rattle.prompt_checker.specs.Read.{steps_of}
 use Rattle.prompt_checker.specs.ScheduleText.{AreStepLines}
 use Rattle.priml.specs.Layers as the
-use Rattle.priml.specs.Reply.{Stops}
+use Rattle.priml.specs.Inside.Reply.{Stops}
 use Rattle.priml.proofs.Replied.{schedule_stops}
 use Rattle.priml.proofs.graphs.schedule.Goals as goal
 

@@ -2,7 +2,7 @@ use Rattle.std.proofs.Common.{subst}
 use Rattle.inputs_text.specs.Inputs.{AreInputs}
 use Rattle.priml_io.specs.Lines.{lines}
 use Rattle.priml.specs.Layers as the
-use Rattle.priml.specs.Reply.{Stops}
+use Rattle.priml.specs.Inside.Reply.{Stops}
 use Rattle.priml.proofs.Replied.{inputs_stop}
 use Rattle.priml.proofs.layers.inputs.Goals as goal
 

@@ -1,4 +1,4 @@
-use Rattle.priml.specs.Prefixes.{NoGraph}
+use Rattle.priml.specs.Inside.Prefixes.{NoGraph}
 use Rattle.priml.proofs.Chains.{handed_on, before_records, behind_records, stopped}
 use Rattle.priml.proofs.Sound.{sound}
 use Rattle.priml.proofs.prefixes.graphed.Goals as goal

@@ -1,4 +1,4 @@
-use Rattle.priml.specs.Prefixes.{NoJob}
+use Rattle.priml.specs.Inside.Prefixes.{NoJob}
 use Rattle.priml.proofs.Alike.{ready}
 use Rattle.priml.proofs.Chains.{handed_on, before_program, behind_program, stopped}
 use Rattle.priml.proofs.prefixes.readied.Goals as goal

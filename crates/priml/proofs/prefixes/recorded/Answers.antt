@@ -1,4 +1,4 @@
-use Rattle.priml.specs.Prefixes.{NoRecords}
+use Rattle.priml.specs.Inside.Prefixes.{NoRecords}
 use Rattle.priml.proofs.Alike.{ran, not_ran}
 use Rattle.priml.proofs.Chains.{handed_on, before_run}
 use Rattle.priml.proofs.prefixes.recorded.Goals as goal

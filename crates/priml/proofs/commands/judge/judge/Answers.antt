@@ -10,8 +10,8 @@ use Rattle.prompt_checker.specs.Schedule.{IsPrompt}
 use Rattle.priml.specs.Chain.{Answer, ◌⇒◌}
 use Rattle.priml.specs.Commands.{WithGraph, Reports}
 use Rattle.priml.specs.Layers as the
-use Rattle.priml.specs.Prefixes.{IsSound}
-use Rattle.priml.specs.Reply.{Stops, Replies}
+use Rattle.priml.specs.Inside.Prefixes.{IsSound}
+use Rattle.priml.specs.Inside.Reply.{Stops, Replies}
 use Rattle.priml.proofs.Chains.{ungraphed, graphed, handed, behind_graph, stopped, stopped_behind, passed}
 use Rattle.priml.proofs.Ordered.{over}
 use Rattle.priml.proofs.commands.judge.judge.Goals as goal

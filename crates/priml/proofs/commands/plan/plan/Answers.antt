@@ -8,7 +8,7 @@ use Rattle.prompt_checker.specs.Text.{schedule_text}
 use Rattle.priml.specs.Chain.{Answer, ◌⇒◌, Says}
 use Rattle.priml.specs.Commands.{WithGraph}
 use Rattle.priml.specs.Layers as the
-use Rattle.priml.specs.Reply.{Stops}
+use Rattle.priml.specs.Inside.Reply.{Stops}
 use Rattle.priml.proofs.Chains.{ungraphed, graphed, handed, behind_graph, stopped, passed}
 use Rattle.priml.proofs.Ordered.{over}
 use Rattle.priml.proofs.commands.plan.plan.Goals as goal

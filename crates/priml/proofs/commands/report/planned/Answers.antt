@@ -7,7 +7,7 @@ use Rattle.prompt_checker.specs.Read.{steps_of}
 use Rattle.priml.specs.Chain.{Answer, ◌⇒◌}
 use Rattle.priml.specs.Commands.{WithGraph, Reports}
 use Rattle.priml.specs.Layers as the
-use Rattle.priml.specs.Reply.{Stops}
+use Rattle.priml.specs.Inside.Reply.{Stops}
 use Rattle.priml.proofs.Chains.{graphed, handed, behind_graph, stopped, passed}
 use Rattle.priml.proofs.Ordered.{over}
 use Rattle.priml.proofs.commands.report.planned.Goals as goal

@@ -3,7 +3,7 @@ use Rattle.priml_syntax.specs.Read.{read_program}
 use Rattle.core_steps.specs.Moves.{read_job}
 use Rattle.source_reader.specs.Stands.{Stands}
 use Rattle.priml.specs.Layers as the
-use Rattle.priml.specs.Reply.{Stops}
+use Rattle.priml.specs.Inside.Reply.{Stops}
 use Rattle.priml.proofs.Chains.{wanting}
 use Rattle.priml.proofs.Samples.{source_reads, made_typable, types_check}
 use Rattle.priml.proofs.commands.sample.made_job.Goals as goal

@@ -4,7 +4,7 @@ use Rattle.prompt_checker.specs.Read.{steps_of}
 use Rattle.source_maker.specs.Text.{made_text}
 use Rattle.priml.specs.Commands.{Sampled}
 use Rattle.priml.specs.Layers as the
-use Rattle.priml.specs.Reply.{Stops, StopsAs}
+use Rattle.priml.specs.Inside.Reply.{Stops, StopsAs}
 use Rattle.priml.proofs.Chains.{handed}
 use Rattle.priml.proofs.Ordered.{over}
 use Rattle.priml.proofs.Samples.{not_run, no_graph, no_plan, sampled, order_of}

@@ -32,13 +32,13 @@ use Rattle.priority_deques.specs.contracts.parts.LaneDeques as LaneDeques
 use Rattle.priority_deques.specs.contracts.ends.StealEnd as StealEnd
 use Rattle.priority_deques.proofs.parts.LaneDeques.TheSendSync as lane
 
-task_send : IsSend Task.the_row
+pub task_send : IsSend Task.the_row
 task_send = search (crosses, block.crosses, expr.crosses, ty.crosses, value.crosses, sendable) depth 60 fits 20000
 
-job_send : IsSend (Snapshot.the_row Job.the_row)
+pub job_send : IsSend (Snapshot.the_row Job.the_row)
 job_send = search (crosses, block.crosses, expr.crosses, ty.crosses, value.crosses, sendable) depth 60 fits 20000
 
-table_send : IsSend LaneTable.the_row
+pub table_send : IsSend LaneTable.the_row
 table_send = search (crosses, block.crosses, expr.crosses, ty.crosses, value.crosses, sendable) depth 60 fits 20000
 
 worker_send : IsSend (Worker.the_row Task.the_row Global.the_row LaneView.the_row LaneRule.the_row of_heap.ghosts of_rule.ghosts)

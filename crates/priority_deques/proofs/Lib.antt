@@ -1,4 +1,3 @@
-pub mod Sums
 pub mod Moves
 pub mod Changes
 pub mod Lists
@@ -8,3 +7,4 @@ pub mod Keeps
 pub mod Opened
 pub mod Joins
 pub mod Crossing
+pub mod QueueCrossing

@@ -9,8 +9,9 @@ use Rattle.type_rules.specs.Jobs.{WithInputs}
 use Rattle.task_state.specs.declared.task.Task.{Task}
 use Rattle.task_state.specs.Tasks.{TaskKey}
 use Rattle.priority_deques.specs.declared.view.LaneView.{LaneView}
-use Rattle.priority_deques.specs.Rule.{AllFit, Each, HasPut, HasTaken, IsLaneDeque, Kept, key, keys, newcomer, total, unnamed}
-use Rattle.priority_deques.proofs.Sums.{each_set, total_append, total_same, total_set}
+use Rattle.task_state.specs.Sums.{total}
+use Rattle.priority_deques.specs.Rule.{AllFit, Each, HasPut, HasTaken, IsLaneDeque, Kept, key, keys, newcomer, unnamed}
+use Rattle.task_state.proofs.Sums.{each_set, total_append, total_same, total_set}
 
 fit_left : (job : WithInputs) (lane : ℕ) (xs ys : List Task) → AllFit job lane (xs ++ ys) → AllFit job lane xs
 fit_left job lane [] ys h = tt

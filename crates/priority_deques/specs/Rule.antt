@@ -6,13 +6,10 @@ use lib.ListN.{get_elem?}
 use Rattle.type_rules.specs.Jobs.{WithInputs}
 use Rattle.core_steps.specs.Moves.{read_job}
 use Rattle.task_state.specs.declared.task.Task.{Task}
+use Rattle.task_state.specs.Sums.{total}
 use Rattle.task_state.specs.Tasks.{TaskKey, key_of, read_task}
 use Rattle.priority_deques.specs.declared.view.LaneView.{LaneView}
 use Rattle.priority_deques.specs.Tasks.{Fits}
-
-abbrev pub total : {A : Type 0} → (A → ℕ) → List A → ℕ
-total f [] = 0
-total f (x ∷ xs) = f x + total f xs
 
 abbrev pub key : Task → TaskKey
 key t = key_of (read_task t)

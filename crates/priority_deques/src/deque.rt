@@ -7,6 +7,7 @@ ghost use Rattle.priority_deques.specs.Rule.{newcomer, unnamed};
 
 use crate::bag::{Bag, OwnBag};
 use crate::handles::{OwnDeque, TheirDeque};
+use crate::opening::Opens;
 use crate::view::{LaneRule, LaneView, Names, Naming, Puts, Takes, Twin};
 use crossbeam_deque::{Steal, Worker};
 use std::alloc::{AllocError, Global};
@@ -38,11 +39,12 @@ fn name(worker: &mut Deque, job: &Job, lane: u64)
     name_as::<Brand>(worker, job, lane);
 }
 
-impl OwnDeque {
-    /// An empty deque of the lane.
-    pub fn open(alloc: Global, job: &Job, lane: u64) -> Result<OwnDeque, AllocError>
-        ensures { IfOk result (λ d. own_book d ≡ fresh_book job.now lane) }
-    {
+impl Opens for OwnDeque {
+    ghost use Rattle.priority_deques.specs.Handles.{own_book};
+
+    ghost own = { own_book };
+
+    fn open(alloc: Global, job: &Job, lane: u64) -> Result<OwnDeque, AllocError> {
         let mut worker = Deque::fifo_as(alloc, FIRST_SLOTS)?;
         name(&mut worker, job, lane);
         Ok(OwnDeque {
@@ -52,7 +54,9 @@ impl OwnDeque {
             refusals: 0,
         })
     }
+}
 
+impl OwnDeque {
     /// A handle for another end.
     pub fn visitor(&mut self, job: &Job) -> Result<TheirDeque, AllocError>
         requires { (own_book self.old).job ≡ job.now }

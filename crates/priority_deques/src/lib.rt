@@ -7,6 +7,7 @@ mod deque;
 mod ends;
 mod handles;
 mod lanes;
+mod opening;
 mod parts;
 mod queue;
 mod shared;

@@ -8,6 +8,7 @@ ghost use Rattle.priority_deques.specs.Rule.{newcomer, unnamed};
 
 use crate::bag::{Bag, OwnBag};
 use crate::handles::{Line, SharedDeque};
+use crate::opening::Opens;
 use crate::view::{LaneRule, LaneView, Names, Naming, Puts, Takes, Twin};
 use crossbeam_queue::{RuledSegQueue, SegPass};
 use std::alloc::{AllocError, Global};
@@ -41,11 +42,13 @@ fn name(queue: &Queue, pass: &mut Passing, job: &Job, lane: u64)
     name_as::<Brand>(queue, pass, job, lane);
 }
 
-impl SharedDeque {
-    /// The first end of an empty queue of the lane.
-    pub fn open(alloc: Global, job: &Job, lane: u64) -> Result<SharedDeque, AllocError>
-        ensures { IfOk result (λ d. shared_book d ≡ fresh_book job.now lane) }
-    {
+impl Opens for SharedDeque {
+    ghost use Rattle.priority_deques.specs.Handles.{shared_book};
+
+    ghost own = { shared_book };
+
+    // The first end of a queue.
+    fn open(alloc: Global, job: &Job, lane: u64) -> Result<SharedDeque, AllocError> {
         let (queue, mut pass) = Queue::with_rule(alloc)?;
         name(&queue, &mut pass, job, lane);
         let line = Arc::new(alloc, Line { queue })?;
@@ -57,7 +60,9 @@ impl SharedDeque {
             refusals: 0,
         })
     }
+}
 
+impl SharedDeque {
     /// One more end of the queue.
     pub fn another(&mut self, job: &Job) -> Result<SharedDeque, AllocError>
         requires { (shared_book self.old).job ≡ job.now }

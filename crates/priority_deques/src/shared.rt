@@ -8,6 +8,7 @@ ghost use Rattle.priority_deques.specs.Parts.{end_books};
 
 use crate::ends::SharedEnd;
 use crate::handles::SharedDeque;
+use crate::opening::lone_lanes;
 use crate::parts::LaneDeques;
 use crate::table::LaneTable;
 use std::alloc::{AllocError, Global};
@@ -40,14 +41,7 @@ fn first_end(alloc: Global, job: &Job) -> Result<SharedEnd, AllocError>
     ensures { IfOk result (λ e. (shared_job e ≡ job.now) × IsOpened job.now 1 (shared_books e)) }
 {
     let table = LaneTable::of(alloc, job)?;
-    let mut lanes = Vec::new(alloc);
-    for lane in 0..table.count() {
-        let own = SharedDeque::open(alloc, job, lane as u64)?;
-        lanes.push(LaneDeques {
-            own,
-            others: Vec::new(alloc),
-        })?;
-    }
+    let lanes = lone_lanes(alloc, job, &table)?;
     Ok(SharedEnd { table, lanes })
 }
 

@@ -10,8 +10,8 @@ ghost use Rattle.priority_deques.specs.Handles.{own_book, their_book};
 ghost use Rattle.priority_deques.specs.Inside.Opening.{AreFresh, Ready};
 
 use crate::ends::StealEnd;
-use crate::handles::{OwnDeque, TheirDeque};
-use crate::parts::LaneDeques;
+use crate::handles::TheirDeque;
+use crate::opening::lone_lanes;
 use crate::table::LaneTable;
 use std::alloc::{AllocError, Global};
 use type_rules::Job;
@@ -43,14 +43,7 @@ fn lone_end(alloc: Global, job: &Job) -> Result<StealEnd, AllocError>
     ensures { IfOk result (λ e. (steal_job e ≡ job.now) × IsOpened job.now 1 (steal_books e)) }
 {
     let table = LaneTable::of(alloc, job)?;
-    let mut lanes = Vec::new(alloc);
-    for lane in 0..table.count() {
-        let own = OwnDeque::open(alloc, job, lane as u64)?;
-        lanes.push(LaneDeques {
-            own,
-            others: Vec::new(alloc),
-        })?;
-    }
+    let lanes = lone_lanes(alloc, job, &table)?;
     Ok(StealEnd { table, lanes })
 }
 

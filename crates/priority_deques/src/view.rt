@@ -1,27 +1,9 @@
 //! What an end knows of a deque, and the rule that each deque keeps.
 use crossbeam_deque::protocol::{Outcome, Protocol, Split};
-use priml_syntax::Path;
 use std::collections::LinkedList;
-use std::marker::{Brand, Model, PhantomData};
-use task_state::Task;
+use std::marker::{Brand, PhantomData};
+use task_state::{Key, Task};
 use type_rules::Job;
-
-/// What tells tasks apart: the thread, and how many steps it has made. No value of it is made.
-pub struct Key {
-    path: Path,
-    steps: u64,
-}
-
-impl Model for Key {
-    ghost use Rattle.task_state.specs.Tasks.{TaskKey};
-    ghost use Rattle.priority_deques.specs.Codes.{key_code};
-
-    ghost Value = { TaskKey };
-
-    ghost coded = { key_code };
-
-    ghost view = { λ k. record { path = k.path; steps = k.steps } };
-}
 
 /// What one pass of a deque knows. No value of it is made.
 pub struct LaneView {
@@ -90,10 +72,18 @@ impl Split<LaneView> for Twin {
 
 pub struct Puts;
 
+pub struct Takes;
+
 impl Outcome<Task, LaneView> for Puts {
     ghost use Rattle.priority_deques.specs.Rule.{HasPut};
 
     ghost then = { HasPut };
+}
+
+impl Outcome<Task, LaneView> for Takes {
+    ghost use Rattle.priority_deques.specs.Rule.{HasTaken};
+
+    ghost then = { HasTaken };
 }
 
 impl crossbeam_queue::protocol::Outcome<Task, LaneView> for Puts {
@@ -101,14 +91,6 @@ impl crossbeam_queue::protocol::Outcome<Task, LaneView> for Puts {
     ghost use Rattle.priority_deques.specs.Rule.{HasPut};
 
     ghost then = { λ v x w. HasPut v (x ∷ []) w };
-}
-
-pub struct Takes;
-
-impl Outcome<Task, LaneView> for Takes {
-    ghost use Rattle.priority_deques.specs.Rule.{HasTaken};
-
-    ghost then = { HasTaken };
 }
 
 impl crossbeam_queue::protocol::Outcome<Task, LaneView> for Takes {

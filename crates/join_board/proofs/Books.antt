@@ -14,7 +14,7 @@ use Rattle.join_board.specs.declared.view.About.{About}
 use Rattle.join_board.specs.Logs.{shard_at, shard_of}
 use Rattle.join_board.specs.Rule.{KeepsLogs}
 use Rattle.join_board.specs.Close.{logs_in}
-use Rattle.join_board.proofs.Sums.{at_append}
+use Rattle.task_state.proofs.Sums.{at_append}
 
 pub flat_snoc : {A B : Type 0} (f : A → List B) (xs : List A) (x : A) → flat_map f (xs ++ x ∷ []) ≡ flat_map f xs ++ f x
 flat_snoc f [] x = append-nil (f x)

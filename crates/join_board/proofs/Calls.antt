@@ -13,12 +13,12 @@ use Rattle.join_board.specs.Views.{HasSeenEnd, HasSeenSpawn}
 use Rattle.join_board.specs.Inside.Views.{took_view, gave_view, back_view, ahead_view, behind_view, settled_view, quiet_view}
 use Rattle.join_board.specs.Inside.Plays.{Taken, Grew, Grew_by}
 use Rattle.join_board.specs.Inside.Finds.{Appended, Parked}
-use Rattle.join_board.specs.Calls.{CanCommit, NotListed}
+use Rattle.join_board.specs.Calls.{CanCommit, HasTaken, NoWork, NotListed}
 use Rattle.join_board.specs.Clauses.{EndedIn, NotEndedIn}
 use Rattle.join_board.proofs.Laws.{all_joins}
 use Rattle.join_board.proofs.Seen.{set_at, log_at}
 use Rattle.join_board.proofs.Logs.{log_missing}
-use Rattle.join_board.proofs.Sums.{total_set, total_same, total_append}
+use Rattle.task_state.proofs.Sums.{total_set, total_same, total_append}
 use Rattle.join_board.proofs.Laws as law
 use Rattle.priml_syntax.specs.declared.value.Outcome.{Outcome}
 use Rattle.priml_syntax.specs.Events.{spawns, ends}
@@ -62,23 +62,15 @@ pub no_last : (es : List Event) → length es ≤ 0 → false ≡ spawned_last e
 no_last [] h = refl
 no_last (x ∷ xs) h = absurd (omega (arith, h))
 
-spawns_one : (e : Event) → spawns (e ∷ []) ≡ cond (is_spawn e) 1 0
-spawns_one Start = refl
-spawns_one Plain = refl
-spawns_one Spawn = refl
-spawns_one (Join b) = refl
-spawns_one Read = refl
-spawns_one (Wrote n) = refl
-spawns_one End = refl
-
-ends_one : (e : Event) → ends (e ∷ []) ≡ cond (is_end e) 1 0
-ends_one Start = refl
-ends_one Plain = refl
-ends_one Spawn = refl
-ends_one (Join b) = refl
-ends_one Read = refl
-ends_one (Wrote n) = refl
-ends_one End = refl
+-- what one event counts for
+alone : (e : Event) → (spawns (e ∷ []) ≡ cond (is_spawn e) 1 0) × (ends (e ∷ []) ≡ cond (is_end e) 1 0)
+alone Start = (refl, refl)
+alone Plain = (refl, refl)
+alone Spawn = (refl, refl)
+alone (Join b) = (refl, refl)
+alone Read = (refl, refl)
+alone (Wrote n) = (refl, refl)
+alone End = (refl, refl)
 
 spawns_none : (e : Event) → goes_on e ≡ true → spawns (e ∷ []) ≡ 0
 spawns_none Spawn h = absurd (true≢false (sym h))
@@ -91,12 +83,12 @@ ends_none e h = refl
 -- where Spawn and End stand only as the last, they are counted by the last
 pub spawns_last : (es : List Event) → OnlyLast es → spawns es ≡ cond (spawned_last es) 1 0
 spawns_last [] h = refl
-spawns_last (x ∷ []) h = spawns_one x
+spawns_last (x ∷ []) h = (alone x).0
 spawns_last (x ∷ y ∷ ys) h = let o = spawns_last (y ∷ ys) h.1 in let a = spawns_none x h.0 in omega (arith, o, a)
 
 pub ends_last : (es : List Event) → OnlyLast es → ends es ≡ cond (ended es) 1 0
 ends_last [] h = refl
-ends_last (x ∷ []) h = ends_one x
+ends_last (x ∷ []) h = (alone x).1
 ends_last (x ∷ y ∷ ys) h = let o = ends_last (y ∷ ys) h.1 in let a = ends_none x h.0 in omega (arith, o, a)
 
 pub settled : (v : View) (n : ℕ) (x : List Entry) → spawned x - spawned v.hand.copy ≡ n → behind_view (gave_view (ahead_view v n) x) 0 ≡ settled_view v x
@@ -279,3 +271,10 @@ twice v xs ys = append_assoc v.seen xs ys
 pub handed_wait : (job : Job) (p : List ℕ) (o : Option Outcome) (ts : List Task) → Each (CanWait job p) ts → Each (CanWait job p) (handed_out o ts)
 handed_wait job p None ts all = λ i t at. absurd (some-ne-none t (sym at))
 handed_wait job p (Some o) ts all = all
+
+-- where the shard went back as it was taken
+pub went_back : (v w : View) (k : ℕ) (x : List Entry) (p : List ℕ) → w ≡ back_view (took_view v k x) → k ≡ shard_of p → HasTaken v p w × NoWork v w
+went_back v w k x p now is = (
+  (ap (λ (u : View). u.hand.taken) now, ap (λ (u : View). u.hand.last) now ∙ is),
+  (ap (λ (u : View). u.own) now, ap (λ (u : View). u.uncounted) now, ap (λ (u : View). u.keys) now),
+)

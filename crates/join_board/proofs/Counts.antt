@@ -8,10 +8,11 @@ use Rattle.join_board.specs.Entries.{Entry}
 use Rattle.join_board.specs.declared.view.About.{About}
 use Rattle.join_board.specs.declared.view.View.{View}
 use Rattle.join_board.specs.declared.view.Stop.{Stop}
-use Rattle.join_board.specs.Logs.{total, Each, size, spawned, finished}
+use Rattle.task_state.specs.Sums.{total}
+use Rattle.join_board.specs.Logs.{Each, size, spawned, finished}
 use Rattle.join_board.specs.Inside.Views.{gave_view, left, right, both, spent_view, added_view, subtracted_view, over_view, counted_view}
 use Rattle.join_board.specs.Rule.{SeatTrue, KeepsSeats, LiveTrue, KeepsLive, asks, CallsTrue, StopTrue, StopCause, KeepsSpent}
-use Rattle.join_board.proofs.Sums.{total_set, total_same, total_at, total_le, total_mul, total_split, total_join, each_set, each_split, each_join}
+use Rattle.task_state.proofs.Sums.{total_set, total_same, total_at, total_le, total_mul, total_split, total_join, each_set, each_split, each_join}
 use Rattle.join_board.proofs.Frames.{each_one}
 
 -- own steps and seats

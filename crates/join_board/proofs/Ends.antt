@@ -11,12 +11,13 @@ use Rattle.join_board.specs.Entries.{Entry}
 use Rattle.join_board.specs.Jobs.{the_job}
 use Rattle.join_board.specs.declared.view.About.{About}
 use Rattle.join_board.specs.declared.view.View.{View}
-use Rattle.join_board.specs.Logs.{total, shard_at, HasRoots}
+use Rattle.task_state.specs.Sums.{total}
+use Rattle.join_board.specs.Logs.{shard_at, HasRoots}
 use Rattle.join_board.specs.Inside.Views.{spent_view}
 use Rattle.join_board.specs.Rule.{has, KeepsLogs, Keeps, asks}
 use Rattle.core_steps.specs.Config.{Thread}
 use Rattle.join_board.specs.Close.{Contains}
-use Rattle.join_board.proofs.Sums.{total_two, total_at, total_zero, total_set, each_set}
+use Rattle.task_state.proofs.Sums.{total_two, total_at, total_zero, total_set, each_set}
 use Rattle.join_board.proofs.Hands.{has_not}
 
 module _ (key : About) where

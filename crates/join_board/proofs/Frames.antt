@@ -6,9 +6,10 @@ use Rattle.join_board.specs.Entries.{Entry}
 use Rattle.join_board.specs.declared.view.About.{About}
 use Rattle.join_board.specs.declared.view.View.{View}
 use Rattle.join_board.specs.declared.view.Stop.{Stop}
-use Rattle.join_board.specs.Logs.{total, Each}
+use Rattle.task_state.specs.Sums.{total}
+use Rattle.join_board.specs.Logs.{Each}
 use Rattle.join_board.specs.Rule.{word_of, SeatTrue, KeepsSeats, has, HandTrue, KeepsHands, SeenTrue, KeepsSeen, LiveTrue, KeepsLive, asks, StopTrue, StopCause, CallsTrue, KeepsSpent, KeepsParked}
-use Rattle.join_board.proofs.Sums.{total_same, each_set}
+use Rattle.task_state.proofs.Sums.{total_same, each_set}
 
 pub each_one : (F : View → Type 0) (views : List View) (id : ℕ) (v w : View) → get_elem? views id ≡ some v → (F v → F w) → Each F views → Each F (set views id w)
 each_one F views id v w at go h = each_set (λ _ u. F u) views id w (go (h id v at)) (λ j u _ e. h j u e)

@@ -4,7 +4,8 @@ use mathlib.Core.Option.{some}
 use lib.ListN.{get_elem?}
 use Rattle.atomic_table.proofs.Lists.{at_longer, at_last, at_snoc}
 use Rattle.core_steps.specs.Config.{Thread}
-use Rattle.join_board.specs.Logs.{total, Each}
+use Rattle.task_state.specs.Sums.{total}
+use Rattle.join_board.specs.Logs.{Each}
 use Rattle.join_board.specs.Inside.Views.{both}
 use Rattle.join_board.specs.Handles.{knows}
 use Rattle.join_board.specs.Close.{Contains}
@@ -13,7 +14,7 @@ use Rattle.join_board.specs.Entries.{Entry}
 use Rattle.join_board.specs.declared.owned.BoardSeat.{BoardSeat}
 use Rattle.join_board.specs.declared.view.About.{About}
 use Rattle.join_board.specs.declared.view.View.{View}
-use Rattle.join_board.proofs.Sums.{total_append}
+use Rattle.task_state.proofs.Sums.{total_append}
 use Rattle.join_board.proofs.Calls.{at_behind}
 
 module _ {A : Type 0} where

@@ -8,10 +8,11 @@ use lib.Seq.{set-get_or}
 use Rattle.atomic_table.proofs.Lists.{set_here, set_else}
 use Rattle.join_board.specs.Entries.{Entry}
 use Rattle.join_board.specs.declared.view.View.{View}
-use Rattle.join_board.specs.Logs.{total, shard_at}
+use Rattle.task_state.specs.Sums.{total}
+use Rattle.join_board.specs.Logs.{shard_at}
 use Rattle.join_board.specs.Inside.Views.{took_view, missed_view, gave_view, left, right, both, spent_view}
 use Rattle.join_board.specs.Rule.{word_of, has, HandTrue, KeepsHands}
-use Rattle.join_board.proofs.Sums.{total_set, total_same, total_two, total_split, total_join, each_set, each_split, each_join}
+use Rattle.task_state.proofs.Sums.{total_set, total_same, total_two, total_split, total_join, each_set, each_split, each_join}
 use Rattle.join_board.proofs.Frames.{each_one}
 
 abbrev pub Homes : Type 0

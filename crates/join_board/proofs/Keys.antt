@@ -12,10 +12,11 @@ use Rattle.task_state.specs.declared.task.Task.{Task}
 use Rattle.task_state.specs.Tasks.{TaskKey}
 use Rattle.join_board.specs.declared.view.About.{About}
 use Rattle.join_board.specs.declared.view.View.{View}
-use Rattle.join_board.specs.Logs.{total, Each, shard_at, weigh, keys, new_keys, kept, handed_out, CanWait}
+use Rattle.task_state.specs.Sums.{total}
+use Rattle.join_board.specs.Logs.{Each, shard_at, weigh, keys, new_keys, kept, handed_out, CanWait}
 use Rattle.join_board.specs.Inside.Views.{gave_view, left, right, both, spent_view}
 use Rattle.join_board.specs.Rule.{Waits, KeepsParked}
-use Rattle.join_board.proofs.Sums.{total_set, total_append, total_split, total_join, at_get}
+use Rattle.task_state.proofs.Sums.{total_set, total_append, total_split, total_join, at_get}
 
 drop_nil : {A : Type 0} (n : ℕ) → drop n (let xs : List A = [] in xs) ≡ []
 drop_nil zero = refl

@@ -1,7 +1,6 @@
 pub mod Laws
 mod Paths
 mod Pairs
-pub mod Sums
 mod Frames
 mod Hands
 pub mod Seen

@@ -26,7 +26,8 @@ use Rattle.trace_book.specs.Segments.{SegmentFields}
 use Rattle.join_board.specs.declared.view.About.{About}
 use Rattle.join_board.specs.Logs.{Each, log_in, log_of, shard_at, shard_of, size, spawned, finished, Shows, Covers, appended, fresh, parked_on, Missing, CanWait, HasEntry}
 use Rattle.join_board.specs.Rule.{Placed, EntryTrue, KeepsLogs, Waits}
-use Rattle.join_board.proofs.Sums.{total_set, total_same, total_append, at_get}
+use Rattle.task_state.specs.Sums.{total}
+use Rattle.task_state.proofs.Sums.{total_set, total_same, total_append, at_get}
 use Rattle.join_board.proofs.Seen.{set_at, log_at, log_else, log_snoc, ShowsMore}
 use Rattle.join_board.proofs.Keys.{Moved, moved_same, moved_appended, moved_parked, moved_snoc, each_shard, waits_kept}
 use Rattle.join_board.proofs.Laws as law
@@ -210,20 +211,26 @@ module _ (key : About) (shards : List (List Entry)) (c : List Thread) (r : Keeps
         waits = each_entry i e e' at refl (Waits key) (λ n u g. ⊎_elim (λ (h : get_elem? e.waiting n ≡ some u). waits i e at n u h) (λ (h : t ≡ u). (subst (CanWait (the_job key) e.log.path) h can, open_still)) (at_snoc e.waiting t u n g)) waits;
       }
 
+  -- an entry without steps behind the others changes no log, and adds nothing
+  log_behind : (e' : Entry) → e'.log.events ≡ [] → (q : List ℕ) → log_of (set shards k (shard_at shards k ++ e' ∷ [])) q ≡ log_of shards q
+  log_behind e' none q = let y = shard_at shards k in let x = y ++ e' ∷ [] in let shards' = set shards k x in
+      let here : shard_at shards' k ≡ x = get_or-set_same shards k x [] (let l = r.deep in omega (arith, l, lt)) in dite (ℕ_discrete (shard_of q) k)
+      (λ b. ap (λ (j : ℕ). log_in (shard_at shards' j) q) b ∙ (ap (λ (z : List Entry). log_in z q) here ∙ (log_snoc y e' q none ∙ ap (λ (j : ℕ). log_in (shard_at shards j) q) (sym b))))
+      (λ n. ap (λ (z : List Entry). log_in z q) (get_or-set_other shards k (shard_of q) x [] n))
+
+  adds_none : (f : Entry → ℕ) (e' : Entry) → f e' ≡ 0 → total f (shard_at shards k ++ e' ∷ []) ≡ total f (shard_at shards k)
+  adds_none f e' none = let h = total_append f (shard_at shards k) (e' ∷ []) in omega (arith, h, none)
+
   -- a thread of the reading without an entry gets one
   pub enrolled_logs : (p : List ℕ) (a : ℕ) → shard_of p ≡ k → IsIn c p → Missing (shard_at shards k) p → PrioOf (the_job key) p a → KeepsLogs key (set shards k (shard_at shards k ++ fresh p a ∷ [])) c
   enrolled_logs p a here_is inside missing prio = let e' = fresh p a in let y = shard_at shards k in let x = y ++ e' ∷ [] in let shards' = set shards k x in
       let here : shard_at shards' k ≡ x = get_or-set_same shards k x [] (let l = r.deep in omega (arith, l, lt)) in
-      let log : (q : List ℕ) → log_of shards' q ≡ log_of shards q = λ q. dite (ℕ_discrete (shard_of q) k)
-      (λ b. ap (λ (j : ℕ). log_in (shard_at shards' j) q) b ∙ (ap (λ (z : List Entry). log_in z q) here ∙ (log_snoc y e' q refl ∙ ap (λ (j : ℕ). log_in (shard_at shards j) q) (sym b))))
-      (λ n. ap (λ (z : List Entry). log_in z q) (get_or-set_other shards k (shard_of q) x [] n)) in
       let empty : events_of c p ≡ [] = r.reads p ∙ (ap (λ (j : ℕ). log_in (shard_at shards j) p) here_is ∙ log_missing y p missing) in
-      let grew : size x ≡ size y = (let h = total_append (λ (u : Entry). length u.log.events) y (e' ∷ []) in omega (arith, h)) in let grew_spawns : spawned x ≡ spawned y = (let h = total_append (λ (u : Entry). spawns u.log.events) y (e' ∷ []) in omega (arith, h)) in
-      let grew_ends : finished x ≡ finished y = (let h = total_append (λ (u : Entry). ends u.log.events) y (e' ∷ []) in omega (arith, h)) in
+      let grew : size x ≡ size y = adds_none (λ (u : Entry). length u.log.events) e' refl in
       let true_now : EntryTrue key c e' = (prio, no_option (outcome_at c p) (λ o q. true≢false (sym (law.has_outcome (the_job key) c p o r.reached inside q) ∙ ap ended empty)), refl) in record {
         deep = length-set shards k x ∙ r.deep;
         reached = r.reached;
-        reads = λ q. r.reads q ∙ sym (log q);
+        reads = λ q. r.reads q ∙ sym (log_behind e' refl q);
         placed = λ j l. dite (ℕ_discrete j k)
             (λ b. subst (λ (z : ℕ). Placed c z (shard_at shards' z)) (sym b) (subst (Placed c k) (sym here) (λ n f g. ⊎_elim
             (λ (h : get_elem? y n ≡ some f). let own = r.placed k lt n f h in (own.0, own.1, λ m z q w. ⊎_elim (λ (u : get_elem? y m ≡ some z). own.2 m z u w) (λ (u : (m ≡ length y) × (e' ≡ z)). absurd (missing n f h (sym w ∙ ap (λ (v : Entry). v.log.path) (sym u.1)))) (at_end y e' m z q)))
@@ -248,20 +255,14 @@ module _ (key : About) (shards : List (List Entry)) (c : List Thread) (r : Keeps
 
   pub turned_enrolled : (p : List ℕ) (a : ℕ) → shard_of p ≡ k → IsIn c p → Missing (shard_at shards k) p → PrioOf (the_job key) p a → Each (Waits key) (shard_at shards k) → Turned key shards c k (shard_at shards k) (shard_at shards k ++ fresh p a ∷ [])
   turned_enrolled p a here_is inside missing prio waits = let e' = fresh p a in let y = shard_at shards k in let x = y ++ e' ∷ [] in let shards' = set shards k x in
-      let here : shard_at shards' k ≡ x = get_or-set_same shards k x [] (let l = r.deep in omega (arith, l, lt)) in
-      let log : (q : List ℕ) → log_of shards' q ≡ log_of shards q = λ q. dite (ℕ_discrete (shard_of q) k)
-      (λ b. ap (λ (j : ℕ). log_in (shard_at shards' j) q) b ∙ (ap (λ (z : List Entry). log_in z q) here ∙ (log_snoc y e' q refl ∙ ap (λ (j : ℕ). log_in (shard_at shards j) q) (sym b))))
-      (λ n. ap (λ (z : List Entry). log_in z q) (get_or-set_other shards k (shard_of q) x [] n)) in
-      let empty : events_of c p ≡ [] = r.reads p ∙ (ap (λ (j : ℕ). log_in (shard_at shards j) p) here_is ∙ log_missing y p missing) in
-      let grew : size x ≡ size y = (let h = total_append (λ (u : Entry). length u.log.events) y (e' ∷ []) in omega (arith, h)) in let grew_spawns : spawned x ≡ spawned y = (let h = total_append (λ (u : Entry). spawns u.log.events) y (e' ∷ []) in omega (arith, h)) in
-      let grew_ends : finished x ≡ finished y = (let h = total_append (λ (u : Entry). ends u.log.events) y (e' ∷ []) in omega (arith, h)) in
-      let true_now : EntryTrue key c e' = (prio, no_option (outcome_at c p) (λ o q. true≢false (sym (law.has_outcome (the_job key) c p o r.reached inside q) ∙ ap ended empty)), refl) in record {
+      let grew : size x ≡ size y = adds_none (λ (u : Entry). length u.log.events) e' refl in let grew_spawns : spawned x ≡ spawned y = adds_none (λ (u : Entry). spawns u.log.events) e' refl in
+      let grew_ends : finished x ≡ finished y = adds_none (λ (u : Entry). ends u.log.events) e' refl in record {
         config = c;
         logs = enrolled_logs p a here_is inside missing prio;
         steps = omega (arith, grew);
         alive = omega (arith, grew_spawns, grew_ends);
         over = λ z. z;
-        shows = λ t h. let pair = subst (λ (l : List Event). (t.length ≤ length l) × (t.ended ≡ true → ended l ≡ true)) (sym (log t.path)) (h.0, h.1) in (pair.0, pair.1, stays_behind e' t.path h.2);
+        shows = λ t h. let pair = subst (λ (l : List Event). (t.length ≤ length l) × (t.ended ≡ true → ended l ≡ true)) (sym (log_behind e' refl t.path)) (h.0, h.1) in (pair.0, pair.1, stays_behind e' t.path h.2);
         moved = moved_snoc y e' refl;
         waits = λ n f g. ⊎_elim (λ (h : get_elem? y n ≡ some f). waits n f h) (λ (h : e' ≡ f). subst (Waits key) h (λ m u b. absurd (some-ne-none u (sym b)))) (at_snoc y e' f n g);
       }

@@ -28,10 +28,11 @@ use Rattle.join_board.specs.Jobs.{the_job}
 use Rattle.join_board.specs.Inside.Openings.{FirstShards, IsRooted}
 use Rattle.join_board.specs.declared.view.About.{About}
 use Rattle.join_board.specs.declared.view.View.{View}
-use Rattle.join_board.specs.Logs.{total, Each, HasEntry, log_in, shard_at, shard_of, size, fresh, weigh, keys, Missing}
+use Rattle.task_state.specs.Sums.{total}
+use Rattle.join_board.specs.Logs.{Each, HasEntry, log_in, shard_at, shard_of, size, fresh, weigh, keys, Missing}
 use Rattle.join_board.specs.Views.{newcomer}
 use Rattle.join_board.specs.Rule.{word_of, spent_word, stop_word, Placed, EntryTrue, SeatTrue, HandTrue, SeenTrue, LiveTrue, StopTrue, Waits, KeepsLogs, Keeps}
-use Rattle.join_board.proofs.Sums.{at_get, at_lt, total_zero}
+use Rattle.task_state.proofs.Sums.{at_get, at_lt, total_zero}
 use Rattle.join_board.proofs.Hands.{has_none}
 use Rattle.join_board.proofs.Logs.{enrolled_logs, stays_behind}
 

@@ -2,6 +2,7 @@
 use Rattle.std.proofs.Common.{◌≡◌, ℕ, zero, suc, ◌<◌, List, [], ◌∷◌, ◌++◌, length, map, take, set, get_or, ◌+◌, ◌≤◌, sym, refl, ap, ◌∙◌, arith, true, false, true≢false, Option, Some, None, is_some}
 use mathlib.Core.Option.{some, some-injective, some-ne-none}
 use lib.ListN.{get_elem?}
+use Rattle.atomic_table.proofs.Lists.{at_index}
 use Rattle.std.specs.Ordering.{ordering_index}
 use Rattle.std.specs.Prelude.{◌==◌}
 use Rattle.std.specs.declared.cmp.Ordering.{Ordering}
@@ -30,6 +31,14 @@ log_paired [] ws i e at = absurd (some-ne-none e (sym at))
 log_paired (l ∷ ls) [] i e at = absurd (some-ne-none e (sym at))
 log_paired (l ∷ ls) (w ∷ ws) zero e at = ap (λ (x : Entry). some x.log) (some-injective (pair l w) e at)
 log_paired (l ∷ ls) (w ∷ ws) (suc i) e at = log_paired ls ws i e at
+
+-- a place of the pairs is one of the logs, and has the log of its pair
+pub in_logs : (ls : List Log) (ws : List Waiting) (x : List Entry) (i : ℕ) → length ls ≡ length ws → paired ls ws ≡ x → i < length x → i < length ls
+in_logs ls ws x i even view l = let h = paired_length ls ws even in let v = ap length view in omega (arith, h, v, l)
+
+pub log_there : (ls : List Log) (ws : List Waiting) (x : List Entry) (i : ℕ) (a : Log) (e : Entry) → length ls ≡ length ws → paired ls ws ≡ x → i < length x → a ≡ get_or ls i a → get_elem? x i ≡ some e → a ≡ e.log
+log_there ls ws x i a e even view l is at =
+    some-injective a e.log (sym (at_index ls i a (in_logs ls ws x i even view l) is) ∙ log_paired ls ws i e (ap (λ (y : List Entry). get_elem? y i) view ∙ at))
 
 pub waiting_paired : (ls : List Log) (ws : List Waiting) (i : ℕ) (e : Entry) (w : Waiting) → get_elem? (paired ls ws) i ≡ some e → get_elem? ws i ≡ some w → w.items ≡ e.waiting
 waiting_paired [] ws i e w at there = absurd (some-ne-none e (sym at))

@@ -29,7 +29,7 @@ use Rattle.join_board.specs.declared.view.About.{About}
 use Rattle.join_board.proofs.Books.{all_of, entry_of}
 use Rattle.join_board.proofs.Laws.{has_ended, outcome_found}
 use Rattle.join_board.proofs.Seen.{log_at}
-use Rattle.join_board.proofs.Sums.{at_append, at_get}
+use Rattle.task_state.proofs.Sums.{at_append, at_get}
 
 module _ {A : Type 0} where
   pub contains_at : (xs : List A) (i : ℕ) (a : A) → get_elem? xs i ≡ some a → Contains xs a

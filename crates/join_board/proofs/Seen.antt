@@ -19,7 +19,7 @@ use Rattle.join_board.specs.Inside.Views.{gave_view, left, right, both, spent_vi
 use Rattle.join_board.specs.Rule.{Placed, SeenTrue, KeepsSeen}
 use Rattle.join_board.proofs.Laws.{all_joins}
 use Rattle.join_board.proofs.Paths.{same_path_eq, either_path}
-use Rattle.join_board.proofs.Sums.{at_append, each_set, each_split, each_join}
+use Rattle.task_state.proofs.Sums.{at_append, each_set, each_split, each_join}
 
 pub set_at : (x : List Entry) (i : ℕ) (e e' : Entry) → get_elem? x i ≡ some e → get_elem? (set x i e') i ≡ some e'
 set_at [] i e e' h = absurd (some-ne-none e (sym h))

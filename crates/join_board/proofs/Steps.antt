@@ -26,7 +26,7 @@ use Rattle.join_board.specs.Logs.{Each, log_in, shard_at, size, spawned, finishe
 use Rattle.join_board.specs.Inside.Views.{left, right, both, spent_view, took_view, missed_view, gave_view, added_view, subtracted_view, alive_view, over_view, counted_view, asked_limit_view, asked_memory_view, unset_view, found_limit_view, found_memory_view}
 use Rattle.join_board.specs.Rule.{word_of, KeepsLive, KeepsSpent, Keeps}
 use Rattle.join_board.specs.Inside.Plays.{Told, Taken, took, gave, Grew, Grew_by, Enrolled_by, Parked_by, added, subtracted, looked, counted, asked_limit, asked_memory, found_stop}
-use Rattle.join_board.proofs.Sums.{total_at, total_le, total_add, total_same, total_set, total_append, was_at}
+use Rattle.task_state.proofs.Sums.{total_at, total_le, total_add, total_same, total_set, total_append, was_at}
 use Rattle.join_board.proofs.Frames.{seats_frame, hands_frame, seen_frame, live_frame, spent_frame, parked_frame}
 use Rattle.join_board.proofs.Hands.{hands_took, hands_missed, hands_gave, hands_split, hands_join}
 use Rattle.join_board.proofs.Seen.{both_seen, shows_mine, seen_gave, seen_split, seen_join, joined, log_at}

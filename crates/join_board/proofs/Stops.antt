@@ -6,10 +6,11 @@ use native.Mathlib.Decide.{ℕ_discrete}
 use lib.ListN.{get_elem?}
 use Rattle.join_board.specs.declared.view.About.{About}
 use Rattle.join_board.specs.declared.view.View.{View}
-use Rattle.join_board.specs.Logs.{total, Each}
+use Rattle.task_state.specs.Sums.{total}
+use Rattle.join_board.specs.Logs.{Each}
 use Rattle.join_board.specs.Inside.Views.{left, right, both, spent_view, asked_limit_view, asked_memory_view, unset_view, found_limit_view, found_memory_view}
 use Rattle.join_board.specs.Rule.{calls, asks, StopTrue, StopCause, KeepsSpent}
-use Rattle.join_board.proofs.Sums.{total_set, total_same, total_split, total_join, each_set, each_split, each_join}
+use Rattle.task_state.proofs.Sums.{total_set, total_same, total_split, total_join, each_set, each_split, each_join}
 
 -- the stop goes to stop', and never back to 0
 stops : (key : About) (work spent stop stop' : ℕ) (views : List View) (id : ℕ) (v w : View) → KeepsSpent key work spent stop views → get_elem? views id ≡ some v → w.uncounted ≡ v.uncounted → asks v ≤ asks w → (stop ≢ 0 → stop' ≢ 0)

@@ -36,7 +36,10 @@ LengthIn x p n = ((e : Entry) × (i : ℕ) × (get_elem? x i ≡ some e) × (e.l
 
 -- the shard that was in hand has no entry of the thread, which is no root, and the seat has seen no log of it
 abbrev pub NotListed : View → List ℕ → List Entry → Type 0
-NotListed v p x = Missing x p × ((k : ℕ) → k < length (the_job v.about).program.mains → p ≢ k ∷ []) × ((i : ℕ) (t : Sight) → get_elem? v.seen i ≡ some t → t.path ≢ p)
+NotListed v p x =
+    Missing x p
+    × ((k : ℕ) → k < length (the_job v.about).program.mains → p ≢ k ∷ [])
+    × ((i : ℕ) (t : Sight) → get_elem? v.seen i ≡ some t → t.path ≢ p)
 
 abbrev pub HasSeen : View → List ℕ → ℕ → Bool → Type 0
 HasSeen v p n b = (i : ℕ) × (t : Sight) × (get_elem? v.seen i ≡ some t) × (t.path ≡ p) × (t.length ≡ n) × (t.ended ≡ b)
@@ -44,18 +47,35 @@ HasSeen v p n b = (i : ℕ) × (t : Sight) × (get_elem? v.seen i ≡ some t) ×
 abbrev pub CanCommit : View → SegmentFields → Type 0
 CanCommit v s = IsSegmentOf (the_job v.about) s × (length s.events ≤ v.about.quantum) × (s.worker < v.about.opened) × AllJoins (HasSeenEnd v) s.events
 
--- the tasks are those that waited at the thread in the shard that was in hand, where the segment ended it; each is one of the job, awaits the thread, and
--- has no pending step
+-- the tasks are those that waited at the thread in this shard, where the segment ended it
+abbrev pub HaveWaited : List Entry → SegmentFields → List Task → Type 0
+HaveWaited x s ts = (e : Entry) × (i : ℕ) × (get_elem? x i ≡ some e) × (e.log.path ≡ s.path) × (ts ≡ handed_out s.outcome e.waiting)
+
+-- the tasks have waited in the shard that was in hand; each is one of the job, awaits the thread, and has no pending step
 abbrev pub HandsOut : View → SegmentFields → List Task → View → Type 0
-HandsOut v s ts w = Each (CanWait (the_job v.about) s.path) ts × ((e : Entry) × (i : ℕ) × (get_elem? w.hand.copy i ≡ some e) × (e.log.path ≡ s.path) × (ts ≡ handed_out s.outcome e.waiting)) × (w.keys.handed ≡ v.keys.handed ++ keys ts) × (w.keys.parked ≡ v.keys.parked)
+HandsOut v s ts w =
+    Each (CanWait (the_job v.about) s.path) ts
+    × HaveWaited w.hand.copy s ts
+    × (w.keys.handed ≡ v.keys.handed ++ keys ts)
+    × (w.keys.parked ≡ v.keys.parked)
 
 abbrev pub IsFull : Commit → Type 0
 IsFull (Full t) = Unit {0}
 IsFull _ = ⊥
 
 abbrev pub Committed : View → SegmentFields → Commit → View → Type 0
-Committed v s (Done ts) w = HasTaken v s.path w × (w.own ≡ v.own + length s.events) × (w.uncounted ≡ v.uncounted + length s.events) × HandsOut v s ts.items w × HasSeen w s.path (s.from + length s.events) (ended s.events)
+Committed v s (Done ts) w =
+    HasTaken v s.path w
+    × (w.own ≡ v.own + length s.events)
+    × (w.uncounted ≡ v.uncounted + length s.events)
+    × HandsOut v s ts.items w
+    × HasSeen w s.path (s.from + length s.events) (ended s.events)
 Committed v s (Full t) w = (read_segment t ≡ s) × (w ≡ v) × (2 ^ 59 < v.own + length s.events)
 Committed v s (Busy t) w = (read_segment t ≡ s) × WasBusy v s.path w × NoWork v w
-Committed v s (Stale t n) w = (read_segment t ≡ s) × HasTaken v s.path w × NoWork v w × LengthIn w.hand.copy s.path n × (n ≢ s.from ⊎ NotListed v s.path w.hand.copy)
+Committed v s (Stale t n) w =
+    (read_segment t ≡ s)
+    × HasTaken v s.path w
+    × NoWork v w
+    × LengthIn w.hand.copy s.path n
+    × (n ≢ s.from ⊎ NotListed v s.path w.hand.copy)
 Committed v s (OutOfMemory t) w = (read_segment t ≡ s) × NoWork v w

@@ -11,15 +11,12 @@ use Rattle.trace_book.specs.declared.segment.Cut.{Cut}
 use Rattle.trace_book.specs.Segments.{SegmentFields}
 use Rattle.trace_book.specs.Logs.{appended as log_appended}
 use Rattle.task_state.specs.declared.task.Task.{Task}
+use Rattle.task_state.specs.Sums.{total}
 use Rattle.task_state.specs.Tasks.{TaskKey, OfJob, awaited_of, key_of, read_task}
 use Rattle.join_board.specs.Entries.{Entry}
 use Rattle.join_board.specs.Threads.{ended}
 use Rattle.join_board.specs.declared.view.Sight.{Sight}
 use Rattle.join_board.specs.declared.view.About.{About}
-
-abbrev pub total : {A : Type 0} → (A → ℕ) → List A → ℕ
-total f [] = 0
-total f (x ∷ xs) = f x + total f xs
 
 abbrev pub Each : {A : Type 0} → (A → Type 0) → List A → Type 0
 Each F xs = (i : ℕ) (x : _) → get_elem? xs i ≡ some x → F x

@@ -12,7 +12,8 @@ use Rattle.task_state.specs.Tasks.{TaskKey}
 use Rattle.join_board.specs.Entries.{Entry}
 use Rattle.join_board.specs.Jobs.{the_job}
 use Rattle.join_board.specs.Threads.{PrioOf, outcome_at}
-use Rattle.join_board.specs.Logs.{total, Each, log_of, shard_at, shard_of, size, HasRoots, Shows, Covers, weigh, CanWait}
+use Rattle.task_state.specs.Sums.{total}
+use Rattle.join_board.specs.Logs.{Each, log_of, shard_at, shard_of, size, HasRoots, Shows, Covers, weigh, CanWait}
 use Rattle.join_board.specs.declared.view.About.{About}
 use Rattle.join_board.specs.declared.view.View.{View}
 use Rattle.join_board.specs.declared.view.Stop.{Stop}
@@ -32,11 +33,17 @@ stop_word = 1056
 
 -- each entry stands in the shard of its thread, which is one of the reading, and no thread has two
 abbrev pub Placed : List Thread → ℕ → List Entry → Type 0
-Placed c k x = (i : ℕ) (e : Entry) → get_elem? x i ≡ some e → (shard_of e.log.path ≡ k) × IsIn c e.log.path × ((j : ℕ) (f : Entry) → get_elem? x j ≡ some f → f.log.path ≡ e.log.path → j ≡ i)
+Placed c k x = (i : ℕ) (e : Entry) → get_elem? x i ≡ some e →
+    (shard_of e.log.path ≡ k)
+    × IsIn c e.log.path
+    × ((j : ℕ) (f : Entry) → get_elem? x j ≡ some f → f.log.path ≡ e.log.path → j ≡ i)
 
 -- the log's priority and outcome are the thread's, and the cuts cover its steps
 abbrev pub EntryTrue : About → List Thread → Entry → Type 0
-EntryTrue key c e = PrioOf (the_job key) e.log.path e.log.prio × (option_map read_outcome e.log.outcome ≡ outcome_at c e.log.path) × Covers key 0 e.log.cuts (length e.log.events)
+EntryTrue key c e =
+    PrioOf (the_job key) e.log.path e.log.prio
+    × (option_map read_outcome e.log.outcome ≡ outcome_at c e.log.path)
+    × Covers key 0 e.log.cuts (length e.log.events)
 
 -- rule 1: the shards read as a reached configuration
 pub record KeepsLogs (key : About) (shards : List (List Entry)) (c : List Thread) : Type 0 where
@@ -97,7 +104,11 @@ abbrev pub asks : View → ℕ
 asks v = v.stop.asked_memory
 
 abbrev pub CallsTrue : About → ℕ → ℕ → ℕ → Stop → Type 0
-CallsTrue key spent stop asked t = (t.most ≤ spent) × (0 < calls t → stop ≢ 0) × (0 < t.found_limit → key.limit < spent) × (0 < t.found_memory → 0 < asked)
+CallsTrue key spent stop asked t =
+    (t.most ≤ spent)
+    × (0 < calls t → stop ≢ 0)
+    × (0 < t.found_limit → key.limit < spent)
+    × (0 < t.found_memory → 0 < asked)
 
 abbrev pub StopTrue : About → ℕ → ℕ → ℕ → View → Type 0
 StopTrue key spent stop asked v = CallsTrue key spent stop asked v.stop

@@ -2,7 +2,8 @@
 ghost use Rattle.std.specs.Prelude.{◌≡◌, ◌+◌, ◌<◌, ◌≤◌, ◌-◌, [], ℕ, vec_capacity, vec_len};
 ghost use mathlib.Core.Option.{some};
 ghost use lib.ListN.{get_elem?};
-ghost use Rattle.join_board.specs.Logs.{total, Each};
+ghost use Rattle.task_state.specs.Sums.{total};
+ghost use Rattle.join_board.specs.Logs.{Each};
 ghost use Rattle.join_board.specs.Inside.Views.{left, right, both};
 ghost use Rattle.join_board.specs.Handles.{knows, IsSeatOf};
 ghost use Rattle.join_board.specs.Close.{Closes};

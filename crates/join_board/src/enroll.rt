@@ -1,11 +1,7 @@
 //! Threads get their entries.
-ghost use Rattle.std.specs.Prelude.{◌≡◌, ◌<◌, ◌%◌, [], ◌∷◌};
-ghost use Rattle.join_board.specs.Jobs.{the_job};
-ghost use Rattle.join_board.specs.Threads.{PrioOf};
-ghost use Rattle.join_board.specs.Views.{HasSeenSpawn};
 ghost use Rattle.join_board.specs.Handles.{knows, IsSeatOf};
 ghost use Rattle.join_board.specs.Calls.{SameSeat};
-ghost use Rattle.join_board.specs.Clauses.{Enrolled};
+ghost use Rattle.join_board.specs.Clauses.{CanEnroll, Enrolled};
 
 use crate::moves::{give_back, give_quiet, take};
 use crate::owned::{Board, BoardSeat};
@@ -28,7 +24,7 @@ impl Board {
     /// Gives the thread an entry, where it has none. The seat has seen its Spawn, and `prio` is its priority.
     pub fn enroll(&self, alloc: Global, seat: &mut BoardSeat, path: &Path, prio: u32) -> Enroll
         requires seat { IsSeatOf self.now seat.old }
-        requires thread { HasSeenSpawn (knows seat.old) path.now × PrioOf (the_job (knows seat.old).about) path.now prio }
+        requires thread { CanEnroll (knows seat.old) path.now prio }
         ensures seat { IsSeatOf self.now seat.new × SameSeat (knows seat.old) (knows seat.new) }
         ensures answer { Enrolled (knows seat.old) path.now result (knows seat.new) }
     {

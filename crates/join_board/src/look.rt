@@ -1,5 +1,4 @@
 //! Outcomes are looked up.
-ghost use Rattle.std.specs.Prelude.{◌≡◌, ◌<◌, ◌%◌, [], ◌∷◌};
 ghost use Rattle.join_board.specs.Handles.{knows, IsSeatOf};
 ghost use Rattle.join_board.specs.Calls.{SameSeat};
 ghost use Rattle.join_board.specs.Clauses.{Looked};

@@ -1,5 +1,4 @@
 //! Tasks wait for the ends of threads.
-ghost use Rattle.std.specs.Prelude.{◌≡◌, ◌<◌, ◌%◌, [], ◌∷◌};
 ghost use Rattle.join_board.specs.Jobs.{the_job};
 ghost use Rattle.join_board.specs.Logs.{CanWait};
 ghost use Rattle.join_board.specs.Handles.{knows, IsSeatOf};

@@ -2,8 +2,8 @@
 use crate::shard::Shard;
 use priml_syntax::Path;
 use std::collections::LinkedList;
-use std::marker::Model;
 use std::snapshot::Snapshot;
+use task_state::Key;
 use type_rules::Job;
 
 /// What is the same for all seats of a board, and the key of its table. Only the view of a seat that was joined to another has no job.
@@ -23,23 +23,6 @@ pub struct Sight {
     pub path: Path,
     pub length: u64,
     pub ended: bool,
-}
-
-/// What tells tasks apart. No value of it is made.
-pub struct Key {
-    path: Path,
-    steps: u64,
-}
-
-impl Model for Key {
-    ghost use Rattle.std.specs.Coded.{codes};
-    ghost use Rattle.task_state.specs.Tasks.{TaskKey};
-
-    ghost Value = { TaskKey };
-
-    ghost coded = { Prim.hlevel codes };
-
-    ghost view = { λ k. record { path = k.path; steps = k.steps } };
 }
 
 pub struct Hand {

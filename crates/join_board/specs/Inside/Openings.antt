@@ -17,4 +17,7 @@ pub record FirstShards (key : About) (shards : List (List Entry)) : Type 0 where
 
 -- the k-th root got an entry at the end of its shard
 abbrev pub IsRooted : Job → ℕ → List (List Entry) → List (List Entry) → Type 0
-IsRooted job k old new = (a : ℕ) × PrioOf job (k ∷ []) a × (new ≡ slice_set old (shard_of (k ∷ [])) (shard_at old (shard_of (k ∷ [])) ++ fresh (k ∷ []) a ∷ []))
+IsRooted job k old new =
+    (a : ℕ)
+    × PrioOf job (k ∷ []) a
+    × (new ≡ slice_set old (shard_of (k ∷ [])) (shard_at old (shard_of (k ∷ [])) ++ fresh (k ∷ []) a ∷ []))

@@ -27,7 +27,9 @@ Sat = Me (Option (List Entry)) View
 
 -- an entry has an outcome exactly where its log ends in End, and then its thread's; that makes no step more
 abbrev pub Told : Job → Entry → Type 0
-Told job e = (e.log.outcome ≡ None → ended e.log.events ≡ false) × ((o : Outcome) → e.log.outcome ≡ Some o → (ended e.log.events ≡ true) × EndsWith job e.log.path (read_outcome o))
+Told job e =
+    (e.log.outcome ≡ None → ended e.log.events ≡ false)
+    × ((o : Outcome) → e.log.outcome ≡ Some o → (ended e.log.events ≡ true) × EndsWith job e.log.path (read_outcome o))
     × (ended e.log.events ≡ true → (es : List Event) (s : State) → Trace job e.log.path (length e.log.events) es s → es ≡ [])
 
 -- what a take tells of the shard
@@ -37,12 +39,15 @@ pub record Taken (v : View) (k : ℕ) (x : List Entry) : Type 0 where
   -- each task that waits in it can
   pub waits : Each (λ (e : Entry). Each (CanWait (the_job v.about) e.log.path) e.waiting) x
   -- each log of the shard is at least as the seat had seen it, and has an entry
-  pub met : (i : ℕ) (t : Sight) → get_elem? v.seen i ≡ some t → shard_of t.path ≡ k → (t.length ≤ length (log_in x t.path)) × (t.ended ≡ true → ended (log_in x t.path) ≡ true) × IsListed x t.path
+  pub met : (i : ℕ) (t : Sight) → get_elem? v.seen i ≡ some t → shard_of t.path ≡ k →
+      (t.length ≤ length (log_in x t.path)) × (t.ended ≡ true → ended (log_in x t.path) ≡ true) × IsListed x t.path
   -- each root of the shard has an entry
   pub rooted : (j : ℕ) → j < length (the_job v.about).program.mains → shard_of (j ∷ []) ≡ k → IsListed x (j ∷ [])
 
 abbrev pub took : Step (Option (List Entry)) → Sat → ℕ → Sat → Type 0
-took st m n m' = (k : ℕ) → st.word ≡ word_of k → (n ≡ 0 → (x : List Entry) × (m' ≡ (took_view m.0 k x, (k, Some x) ∷ m.1)) × Taken m.0 k x) × (n ≢ 0 → m' ≡ (missed_view m.0 k, m.1))
+took st m n m' = (k : ℕ) → st.word ≡ word_of k →
+    (n ≡ 0 → (x : List Entry) × (m' ≡ (took_view m.0 k x, (k, Some x) ∷ m.1)) × Taken m.0 k x)
+    × (n ≢ 0 → m' ≡ (missed_view m.0 k, m.1))
 
 -- the value in the slot that the seat took last
 abbrev pub in_slot : Option (List Entry) → List Entry
@@ -89,9 +94,9 @@ pub record Parked_by (v : View) (k : ℕ) (x : List Entry) : Type 0 where
   pub entry : Entry
   pub task : Task
   pub there : get_elem? v.hand.copy at ≡ some entry
-  pub is : x ≡ Rattle.std.specs.Prelude.slice_set v.hand.copy at (parked_on entry task)
   pub goes_on : entry.log.outcome ≡ None
   pub waits : CanWait (the_job v.about) entry.log.path task
+  pub is : x ≡ Rattle.std.specs.Prelude.slice_set v.hand.copy at (parked_on entry task)
 
 -- what may be given back
 abbrev pub Grew : View → ℕ → List Entry → Type 0
@@ -116,4 +121,8 @@ abbrev pub asked_memory : Step (Option (List Entry)) → Sat → ℕ → Sat →
 asked_memory st m n m' = m' ≡ (asked_memory_view m.0, m.1)
 
 abbrev pub found_stop : Step (Option (List Entry)) → Sat → ℕ → Sat → Type 0
-found_stop st m n m' = (n < 3) × (n ≡ 0 → m' ≡ (unset_view m.0, m.1)) × (n ≡ 1 → m' ≡ (found_limit_view m.0, m.1)) × (n ≡ 2 → m' ≡ (found_memory_view m.0, m.1))
+found_stop st m n m' =
+    (n < 3)
+    × (n ≡ 0 → m' ≡ (unset_view m.0, m.1))
+    × (n ≡ 1 → m' ≡ (found_limit_view m.0, m.1))
+    × (n ≡ 2 → m' ≡ (found_memory_view m.0, m.1))

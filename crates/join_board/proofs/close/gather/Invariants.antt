@@ -1,7 +1,8 @@
 use Rattle.std.proofs.Common.{◌≡◌, ℕ, ◌+◌, ◌<◌, vec_len, ◌⊎◌, []}
 use mathlib.Core.Option.{some}
 use lib.ListN.{get_elem?}
-use Rattle.join_board.specs.Logs.{total, Each}
+use Rattle.task_state.specs.Sums.{total}
+use Rattle.join_board.specs.Logs.{Each}
 use Rattle.join_board.specs.Handles.{knows}
 use Rattle.join_board.specs.Inside.Close.{Absorbed}
 use Rattle.join_board.specs.declared.owned.BoardSeat.{BoardSeat}

@@ -12,8 +12,8 @@ use Rattle.join_board.specs.Calls.{NotListed}
 use Rattle.join_board.specs.Entries.{Entry}
 use Rattle.task_state.specs.Tasks.{TaskKey}
 use Rattle.join_board.specs.declared.view.View.{View}
-use Rattle.join_board.proofs.Sums.{at_lt}
-use Rattle.join_board.proofs.Calls.{can_grow, handed_wait, not_listed, grows, grown, spawn_is, end_is, bit_few, sees_appended, hands}
+use Rattle.task_state.proofs.Sums.{at_lt}
+use Rattle.join_board.proofs.Calls.{can_grow, handed_wait, not_listed, grows, grown, spawn_is, end_is, bit_few, sees_appended, hands, went_back}
 use Rattle.join_board.proofs.owned.Board.commit.Goals as goal
 
 pub len_at-len-requires : goal.len_at-len-requires
@@ -29,20 +29,17 @@ append-requires-clause-thread c = λ e there. let at = c.in-Some-find.ensures in
 
 pub returns-then-len-segment-clause-answer : goal.returns-then-len-segment-clause-answer
 returns-then-len-segment-clause-answer c = let took = c.in-Some.ensures.found.0 in let at = c.in-Some-find.ensures in let x = c.in-Some.value in let i = c.in-Some-find.i in let v = c.args.seat.now.seat.me.0 in
-    let now : c.give_back-then-len-segment.new.seat.me.0 ≡ back_view (took_view v c.shard_of-shard.result x) = ap (λ m. m.0) c.give_back-then-len-segment.ensures.given ∙ ap (λ m. back_view m.0) took in (
-      refl,
-      (ap (λ (u : View). u.hand.taken) now, ap (λ (u : View). u.hand.last) now ∙ c.shard_of-shard.ensures.value),
-      (ap (λ (u : View). u.own) now, ap (λ (u : View). u.uncounted) now, ap (λ (u : View). u.keys) now),
-      inl (at.0, i, ap (λ (u : View). get_elem? u.hand.copy i) now ∙ at.1, at.2, c.len_at-len.ensures at.0 at.1),
-      inl (search rules),
-    )
+    let now : c.give_back-then-len-segment.new.seat.me.0 ≡ back_view (took_view v c.shard_of-shard.result x) = ap (λ m. m.0) c.give_back-then-len-segment.ensures.given ∙ ap (λ m. back_view m.0) took in
+    let went = went_back v c.give_back-then-len-segment.new.seat.me.0 c.shard_of-shard.result x c.args.segment.path now c.shard_of-shard.ensures.value in
+    (refl, went.0, went.1, inl (at.0, i, ap (λ (u : View). get_elem? u.hand.copy i) now ∙ at.1, at.2, c.len_at-len.ensures at.0 at.1), inl (search rules))
 
 pub returns-in-None-clause-answer : goal.returns-in-None-clause-answer
 returns-in-None-clause-answer c = let took = c.in-Some.ensures.found in let v = c.args.seat.now.seat.me.0 in let p = c.args.segment.path in let k = c.shard_of-shard.result in let x = c.in-Some.value in let missing = c.in-None.ensures in
-    let now : c.give_back.new.seat.me.0 ≡ back_view (took_view v k x) = ap (λ m. m.0) c.give_back.ensures.given ∙ ap (λ m. back_view m.0) took.0 in let copy = ap (λ (u : View). u.hand.copy) (sym now) in (
+    let now : c.give_back.new.seat.me.0 ≡ back_view (took_view v k x) = ap (λ m. m.0) c.give_back.ensures.given ∙ ap (λ m. back_view m.0) took.0 in let copy = ap (λ (u : View). u.hand.copy) (sym now) in
+    let went = went_back v c.give_back.new.seat.me.0 k x c.args.segment.path now c.shard_of-shard.ensures.value in (
       refl,
-      (ap (λ (u : View). u.hand.taken) now, ap (λ (u : View). u.hand.last) now ∙ c.shard_of-shard.ensures.value),
-      (ap (λ (u : View). u.own) now, ap (λ (u : View). u.uncounted) now, ap (λ (u : View). u.keys) now),
+      went.0,
+      went.1,
       inr (subst (λ (z : List Entry). Missing z p) copy missing, refl),
       inr (subst (NotListed v p) copy (not_listed v k x p took.1 (sym c.shard_of-shard.ensures.value) missing)),
     )

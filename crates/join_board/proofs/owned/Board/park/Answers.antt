@@ -8,8 +8,8 @@ use Rattle.join_board.specs.Clauses.{EndedIn}
 use Rattle.join_board.specs.Entries.{Entry}
 use Rattle.task_state.specs.Tasks.{TaskKey}
 use Rattle.join_board.specs.declared.view.View.{View}
-use Rattle.join_board.proofs.Sums.{at_lt}
-use Rattle.join_board.proofs.Calls.{not_listed, parks, sums_parked, keys_parked, test_end, test_open}
+use Rattle.task_state.proofs.Sums.{at_lt}
+use Rattle.join_board.proofs.Calls.{not_listed, parks, sums_parked, keys_parked, test_end, test_open, went_back}
 use Rattle.join_board.proofs.owned.Board.park.Goals as goal
 
 pub has_ended-requires : goal.has_ended-requires
@@ -32,21 +32,15 @@ give_quiet-requires-clause-quiet c = let took = c.in-Some.ensures.found.0 in let
 
 pub returns-then-has_ended-clause-answer : goal.returns-then-has_ended-clause-answer
 returns-then-has_ended-clause-answer c = let took = c.in-Some.ensures.found in let v = c.args.seat.now.seat.me.0 in let p = c.args.path.now in let k = c.shard_of-shard.result in let x = c.in-Some.value in let i = c.in-Some-find.i in let at = c.in-Some-find.ensures in
-    let back = c.give_back-then-has_ended in let now : back.new.seat.me.0 ≡ back_view (took_view v k x) = ap (λ m. m.0) back.ensures.given ∙ ap (λ m. back_view m.0) took.0 in let copy = ap (λ (u : View). u.hand.copy) (sym now) in (
-      refl,
-      (ap (λ (u : View). u.hand.taken) now, ap (λ (u : View). u.hand.last) now ∙ c.shard_of-shard.ensures.value),
-      (ap (λ (u : View). u.own) now, ap (λ (u : View). u.uncounted) now, ap (λ (u : View). u.keys) now),
-      subst (λ (z : List Entry). EndedIn z p) copy (test_end v k x p i at.0 took.1 at.1 at.2 (sym (c.has_ended.ensures at.0 at.1) ∙ c.if-has_ended.true)),
-    )
+    let back = c.give_back-then-has_ended in let now : back.new.seat.me.0 ≡ back_view (took_view v k x) = ap (λ m. m.0) back.ensures.given ∙ ap (λ m. back_view m.0) took.0 in let copy = ap (λ (u : View). u.hand.copy) (sym now) in
+    let went = went_back v back.new.seat.me.0 k x c.args.path.now now c.shard_of-shard.ensures.value in
+    (refl, went.0, went.1, subst (λ (z : List Entry). EndedIn z p) copy (test_end v k x p i at.0 took.1 at.1 at.2 (sym (c.has_ended.ensures at.0 at.1) ∙ c.if-has_ended.true)))
 
 pub returns-in_default-find-clause-answer : goal.returns-in_default-find-clause-answer
 returns-in_default-find-clause-answer c = let took = c.in-Some.ensures.found in let v = c.args.seat.now.seat.me.0 in let p = c.args.path.now in let k = c.shard_of-shard.result in let x = c.in-Some.value in let missing = c.in_default-find.ensures in
-    let now : c.give_back.new.seat.me.0 ≡ back_view (took_view v k x) = ap (λ m. m.0) c.give_back.ensures.given ∙ ap (λ m. back_view m.0) took.0 in let copy = ap (λ (u : View). u.hand.copy) (sym now) in (
-      refl,
-      (ap (λ (u : View). u.hand.taken) now, ap (λ (u : View). u.hand.last) now ∙ c.shard_of-shard.ensures.value),
-      (ap (λ (u : View). u.own) now, ap (λ (u : View). u.uncounted) now, ap (λ (u : View). u.keys) now),
-      subst (NotListed v p) copy (not_listed v k x p took.1 (sym c.shard_of-shard.ensures.value) missing),
-    )
+    let now : c.give_back.new.seat.me.0 ≡ back_view (took_view v k x) = ap (λ m. m.0) c.give_back.ensures.given ∙ ap (λ m. back_view m.0) took.0 in let copy = ap (λ (u : View). u.hand.copy) (sym now) in
+    let went = went_back v c.give_back.new.seat.me.0 k x c.args.path.now now c.shard_of-shard.ensures.value in
+    (refl, went.0, went.1, subst (NotListed v p) copy (not_listed v k x p took.1 (sym c.shard_of-shard.ensures.value) missing))
 
 pub returns-in-Ok-clause-answer : goal.returns-in-Ok-clause-answer
 returns-in-Ok-clause-answer c = let took = c.in-Some.ensures.found.0 in let v = c.args.seat.now.seat.me.0 in let p = c.args.path.now in let k = c.shard_of-shard.result in let x = c.in-Some.value in let y = c.park.new.self in

@@ -6,7 +6,7 @@ use lib.ListN.{get_elem?}
 use Rattle.atomic_table.proofs.Lists.{at_index}
 use Rattle.trace_book.specs.Log.{Log}
 use Rattle.join_board.specs.Entries.{Entry}
-use Rattle.join_board.proofs.Sums.{at_lt}
+use Rattle.task_state.proofs.Sums.{at_lt}
 use Rattle.join_board.proofs.Pairs.{pair, paired_length, at_paired, some_at, log_paired, equal_of, not_equal}
 use Rattle.join_board.proofs.shard.Shard.find.Goals as goal
 

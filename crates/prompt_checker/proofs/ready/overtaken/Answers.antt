@@ -17,9 +17,8 @@ pub returns-in-Some : goal.returns-in-Some
 returns-in-Some c =
     let line = c.args.line.now.items in
     let i = c.loop-vertex.vertex-index in
-    let same = c.deref-vertex-items.ensures.value in
-    let lt : i < length line = omega (arith, c.loop-vertex-test.true, ap length same) in
-    let at : get_or c.deref-vertex-items.result.now i 0 ≡ get_or line i 0 = ap (λ (l : List ℕ). get_or l i 0) same in
+    let lt : i < length line = omega (arith, c.loop-vertex-test.true, ap length c.deref-vertex-items.ensures.value) in
+    let at : get_or c.deref-vertex-items.result.now i 0 ≡ get_or line i 0 = ap (λ (l : List ℕ). get_or l i 0) c.deref-vertex-items.ensures.value in
     overtaken_made c.args.graph.now c.args.order.now.pairs c.args.ready.now.items line i c.priority_of_vertex-low.result (get_or c.deref-vertex-items.result.now i 0) c.in-Some.other lt at c.priority_of_vertex-low.ensures.is c.in-Some.ensures c.loop-vertex.invariant
 
 pub returns : goal.returns

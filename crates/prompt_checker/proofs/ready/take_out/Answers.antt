@@ -11,27 +11,24 @@ use Rattle.prompt_checker.specs.Inside.Watch.{holds}
 use Rattle.prompt_checker.proofs.Held.{out_start, out_more}
 use Rattle.prompt_checker.proofs.ready.take_out.Goals as goal
 
-pub index_mut-requires : goal.index_mut-requires
-index_mut-requires c = omega (arith, owned_below c.args.graph.now (length c.args.ready.now.items) c.priority_of_vertex-p.result c.requires.priorities c.priority_of_vertex-p.ensures.owned, c.loop-vertex.invariant.long)
-
 pub loop-vertex-init : goal.loop-vertex-init
 loop-vertex-init c = out_start c.args.graph.now c.args.line.now.items c.args.ready.now.items
+
+pub index_mut-requires : goal.index_mut-requires
+index_mut-requires c = omega (arith, owned_below c.args.graph.now (length c.args.ready.now.items) c.priority_of_vertex-p.result c.requires.priorities c.priority_of_vertex-p.ensures.owned, c.loop-vertex.invariant.long)
 
 pub loop-vertex-preserved : goal.loop-vertex-preserved
 loop-vertex-preserved c =
     let g = c.args.graph.now in
     let line = c.args.line.now.items in
     let i = c.loop-vertex.vertex-index in
-    let now = c.loop-vertex.ready.items in
-    let p = c.priority_of_vertex-p.result in
-    let s = c.index_mut.result.now in
-    let t = c.remove.new.self in
     let same = c.deref-vertex-items.ensures.value in
-    let lt : i < length line = omega (arith, c.loop-vertex-test.true, ap length same) in
-    let is : p ≡ vertex_priority g (get_or line i 0) = c.priority_of_vertex-p.ensures.is ∙ ap (λ (l : List ℕ). vertex_priority g (get_or l i 0)) same in
-    let small : p < length now = omega (arith, owned_below c.args.graph.now (length c.args.ready.now.items) c.priority_of_vertex-p.result c.requires.priorities c.priority_of_vertex-p.ensures.owned, c.loop-vertex.invariant.long) in
-    let updates = subst (λ (l : List ℕ). (v : ℕ) → contains nat_cmp t v ≡ cond (is_at (nat_cmp (get_or l i 0)) v) false (contains nat_cmp s v)) same c.remove.ensures.updates.0 in
-    out_more g line c.args.ready.now.items now _ i p s t lt small c.index_mut.ensures.value refl is (length-set now p t) updates c.loop-vertex.invariant
+    let updates = subst (λ (l : List ℕ). (v : ℕ) → contains nat_cmp c.remove.new.self v ≡ cond (is_at (nat_cmp (get_or l i 0)) v) false (contains nat_cmp c.index_mut.result.now v)) same c.remove.ensures.updates.0 in
+    out_more g line c.args.ready.now.items c.loop-vertex.ready.items _ i c.priority_of_vertex-p.result c.index_mut.result.now c.remove.new.self
+    (omega (arith, c.loop-vertex-test.true, ap length same))
+    (omega (arith, owned_below g (length c.args.ready.now.items) c.priority_of_vertex-p.result c.requires.priorities c.priority_of_vertex-p.ensures.owned, c.loop-vertex.invariant.long))
+    c.index_mut.ensures.value refl (c.priority_of_vertex-p.ensures.is ∙ ap (λ (l : List ℕ). vertex_priority g (get_or l i 0)) same)
+    (length-set c.loop-vertex.ready.items c.priority_of_vertex-p.result c.remove.new.self) updates c.loop-vertex.invariant
 
 pub returns-clause-held : goal.returns-clause-held
 returns-clause-held c =

@@ -58,8 +58,8 @@ module _ (job : Job) (l : LocalFields) (can : CanStep job l None) (mode : l.mode
   left_row at e a b v w body gives is = absurd (cc)
 
   pub right_row : (at : ℕ) (e : Term) (a b : Code) (v w : Value') → body_at job.program l.top ≡ Some (case_tail at e a b) → result_of l.top.scope e ≡ Some (returned v) → side_in v ≡ Some (Right w) → Goes job l None Plain None (record l { top = record (within_frame l.top Second) { scope = l.top.scope ++ w ∷ [] } })
+  right_row at e a b (left_value x) w body gives is = absurd (cc)
   right_row at e a b (right_value x) w body gives is =
       let c = case_tail at e a b in let same : x ≡ w = cc in
       rw (sym same) (branch_row c b (record (within_frame l.top Second) { scope = l.top.scope ++ x ∷ [] }) body (body_second job.program l.top c b (l.top.scope ++ x ∷ []) body refl) (case_gives at e a b (right_value x) gives))
-  right_row at e a b (left_value x) w body gives is = absurd (cc)
   right_row at e a b v w body gives is = absurd (cc)

@@ -11,12 +11,10 @@ use Rattle.core_steps.specs.Steps.{Job, Frame, Phase, Fresh, Run, Failing, Ended
 
 -- a type with the priorities that its variables stand for
 abbrev pub settled : List ℕ → Type' → Type'
-settled ps unit = unit
-settled ps bool = bool
-settled ps int = int
 settled ps (pair a b) = pair (settled ps a) (settled ps b)
 settled ps (sum a b) = sum (settled ps a) (settled ps b)
 settled ps (thread p t) = thread (Const (prio_of ps p)) (settled ps t)
+settled ps t = t
 
 -- the priorities meet the constraints
 abbrev pub Meets : List (ℕ × ℕ) → List ℕ → List Constraint → Type 0

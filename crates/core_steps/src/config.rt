@@ -38,14 +38,6 @@ pub enum CoreStop {
     OutOfMemory,
 }
 
-impl From<AllocError> for CoreStop {
-    ghost from_gives = { λ _ stop. stop ≡ OutOfMemory };
-
-    fn from(_: AllocError) -> CoreStop {
-        CoreStop::OutOfMemory
-    }
-}
-
 /// The threads of a job so far, each with its events, in the order of paths.
 #[derive(Drop)]
 pub struct Config {
@@ -191,7 +183,7 @@ impl Config {
         ensures kept { OnErr result (slots_of self.new ≡ slots_of self.old) }
     {
         self.threads.reserve(1)?;
-        let made = step_at(&mut self.threads, alloc, job, at, outcome, join)?;
+        let made = step_at(&mut self.threads, at, alloc, job, outcome, join)?;
         let Made { event, child } = made;
         let last = add_child(&mut self.threads, alloc, child, at);
         self.near = near_after(&self.threads, &event, last);
@@ -216,5 +208,13 @@ impl Config {
             }
             Next::Ended => Err(CoreStop::Ended),
         }
+    }
+}
+
+impl From<AllocError> for CoreStop {
+    ghost from_gives = { λ _ stop. stop ≡ OutOfMemory };
+
+    fn from(_: AllocError) -> CoreStop {
+        CoreStop::OutOfMemory
     }
 }

@@ -73,9 +73,9 @@ impl Local {
     ) -> Result<Made, AllocError>
         requires can { CanStep (read_job job.now) (read_local self.old) (Some (read_outcome outcome.now)) }
         requires mode { read_mode self.old.mode ≡ running }
+        requires path { thread_of (slice_get (read_frame self.old.top).scope x) ≡ Some path }
         requires next { IsNext (read_job job.now).program (read_frame self.old.top) (sync x) }
         requires small { self.old.top.done < 2 ^ 63 }
-        requires path { thread_of (slice_get (read_frame self.old.top).scope x) ≡ Some path }
         ensures goes { IfOk result (λ m. MakesTo (read_job job.now) self.old (Some (read_outcome outcome.now)) m self.new) }
         ensures steps { self.new.steps ≡ self.old.steps }
         ensures kept { OnErr result (read_local self.new ≡ read_local self.old) }

@@ -186,9 +186,9 @@ fn add(threads: &mut Vec<Slot>, alloc: Global, child: Local, parent: usize) -> u
 // A step of the thread there.
 pub(crate) fn step_at(
     threads: &mut Vec<Slot>,
+    at: usize,
     alloc: Global,
     job: &Job,
-    at: usize,
     outcome: Option<&Outcome>,
     join: Option<Path>,
 ) -> Result<Made, AllocError>

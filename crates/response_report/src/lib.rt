@@ -11,5 +11,5 @@ mod text;
 pub use bound::response_is_bounded;
 pub use laws::{rows_are_one, some_rows};
 pub use report::rows;
-pub use row::{ReportStop, Row};
+pub use row::Row;
 pub use text::response_text;

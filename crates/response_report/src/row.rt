@@ -1,8 +1,3 @@
-ghost use Rattle.std.specs.Prelude.{◌≡◌};
-ghost use Rattle.response_report.specs.declared.row.ReportStop.TheVariants.{OutOfMemory};
-
-use std::alloc::AllocError;
-
 /// The response of a thread under a schedule, and its bound.
 #[derive(Clone, Copy, Debug)]
 pub struct Row {
@@ -16,20 +11,4 @@ pub struct Row {
     pub span: u64,
     /// What the response is at most, in steps: the work plus the span for each core but one, divided by the cores.
     pub bound: u64,
-}
-
-/// Why there are no rows.
-#[derive(Debug, Drop)]
-pub enum ReportStop {
-    /// Threads times vertices exceeds 134,217,728.
-    TooLarge,
-    OutOfMemory,
-}
-
-impl From<AllocError> for ReportStop {
-    ghost from_gives = { λ _ stop. stop ≡ OutOfMemory };
-
-    fn from(_: AllocError) -> ReportStop {
-        ReportStop::OutOfMemory
-    }
 }

@@ -20,12 +20,12 @@ ghost use Rattle.priml.specs.Inside.Reply.{Hands, Stops, Replies};
 
 use crate::layers::{done, section};
 use crate::refusal::{Stop, flaw_refusal, report_too_large, schedule_stop};
-use cost_graph::Graph;
+use cost_graph::{Graph, GraphStop};
 use priml_syntax::Records;
 use priority_order::Order;
 use prompt_checker::{Schedule, Verdict, judge, read_schedule};
 use prompt_planner::plan as the_plan;
-use response_report::{ReportStop, Row, response_text, rows as the_rows};
+use response_report::{Row, response_text, rows as the_rows};
 use serial_meaning::run_text;
 use std::alloc::{AllocError, Global};
 
@@ -105,8 +105,8 @@ pub fn rows(
 {
     match the_rows(alloc, graph, order, cores, schedule) {
         Ok(rows) => Ok(rows),
-        Err(ReportStop::TooLarge) => Err(Stop::Refused(report_too_large())),
-        Err(ReportStop::OutOfMemory) => Err(Stop::OutOfMemory),
+        Err(GraphStop::TooLarge) => Err(Stop::Refused(report_too_large())),
+        Err(GraphStop::OutOfMemory) => Err(Stop::OutOfMemory),
     }
 }
 

@@ -27,14 +27,6 @@ pub enum MeaningStop {
     OutOfMemory,
 }
 
-impl From<AllocError> for MeaningStop {
-    ghost from_gives = { λ _ stop. stop ≡ OutOfMemory };
-
-    fn from(_: AllocError) -> MeaningStop {
-        MeaningStop::OutOfMemory
-    }
-}
-
 // A thread that has not ended, and how many threads it has spawned.
 #[derive(Drop)]
 pub(crate) struct Active {
@@ -183,5 +175,13 @@ fn child_of(alloc: Global, path: &Path, k: u32) -> Result<Path, AllocError>
         Ok(child) => Ok(child),
         Err(PathStop::OutOfMemory) => Err(AllocError),
         Err(PathStop::TooDeep) => unreachable!(),
+    }
+}
+
+impl From<AllocError> for MeaningStop {
+    ghost from_gives = { λ _ stop. stop ≡ OutOfMemory };
+
+    fn from(_: AllocError) -> MeaningStop {
+        MeaningStop::OutOfMemory
     }
 }

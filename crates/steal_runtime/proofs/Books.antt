@@ -13,7 +13,8 @@ use Rattle.task_state.proofs.Books.{finished_records}
 use Rattle.join_board.specs.Close.{logs_in}
 use Rattle.join_board.specs.Entries.{Entry}
 use Rattle.join_board.specs.Jobs.{the_job}
-use Rattle.join_board.specs.Logs.{Covers, size, total}
+use Rattle.task_state.specs.Sums.{total}
+use Rattle.join_board.specs.Logs.{Covers, size}
 use Rattle.join_board.specs.Rule.{KeepsLogs}
 use Rattle.join_board.specs.declared.view.About.{About}
 use Rattle.join_board.proofs.Books.{logs_apart}

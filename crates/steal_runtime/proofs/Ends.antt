@@ -15,7 +15,8 @@ use Rattle.join_board.specs.Views.{opened_view}
 use Rattle.join_board.specs.Close.{Closes}
 use Rattle.join_board.specs.Handles.{knows, IsSeatOf}
 use Rattle.join_board.specs.Jobs.{the_job}
-use Rattle.join_board.specs.Logs.{Each, total}
+use Rattle.task_state.specs.Sums.{total}
+use Rattle.join_board.specs.Logs.{Each}
 use Rattle.steal_runtime.specs.Runs.{IsRun}
 use Rattle.steal_runtime.specs.Inside.Seats.{Sits, SomeOver, about}
 use Rattle.steal_runtime.proofs.Books.{is_run, over_limit}

@@ -27,7 +27,7 @@ use Rattle.join_board.specs.Threads.{PrioOf, Spawns}
 use Rattle.join_board.specs.Views.{HasSeenEnd, HasSeenSpawn}
 use Rattle.join_board.proofs.Laws.{all_joins}
 use Rattle.steal_runtime.specs.Inside.Seats.{Sits, about}
-use Rattle.steal_runtime.specs.Inside.Tasks.{CanRun}
+use Rattle.join_board.specs.Tasks.{CanRun}
 use Rattle.join_board.proofs.Books.{all_of}
 use Rattle.steal_runtime.proofs.Seats.{seen_end}
 

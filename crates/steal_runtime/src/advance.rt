@@ -1,15 +1,13 @@
 //! A worker runs a task for one quantum.
-ghost use Rattle.std.specs.Prelude.{◌≡◌, ◌<◌, ◌≤◌, length, true, Bool, IfOk, IfSome};
-ghost use Rattle.priml_syntax.specs.Events.{AllJoins};
+ghost use Rattle.std.specs.Prelude.{◌≡◌, ◌<◌, true, IfOk, IfSome};
 ghost use Rattle.core_steps.specs.Moves.{read_job};
 ghost use Rattle.task_state.specs.Segments.{IsHandedOut};
 ghost use Rattle.task_state.specs.Tasks.{OfJob, read_task};
-ghost use Rattle.join_board.specs.Calls.{HasSeen};
 ghost use Rattle.join_board.specs.Handles.{knows};
 ghost use Rattle.join_board.specs.Jobs.{the_job};
-ghost use Rattle.join_board.specs.Views.{HasSeenEnd};
+ghost use Rattle.join_board.specs.Tasks.{CanRun};
 ghost use Rattle.steal_runtime.specs.Inside.Seats.{Serves, Sits, Stays, about};
-ghost use Rattle.steal_runtime.specs.Inside.Tasks.{AwaitsOne, CanRun};
+ghost use Rattle.steal_runtime.specs.Inside.Tasks.{AwaitsOne, CanSettle, IsSettled};
 
 use crate::parts::Duty;
 use crate::publish::{enroll, publish};
@@ -35,11 +33,11 @@ fn settle<R: Wait, L: Lanes>(
     requires duty { (duty.worker < (about board.now).opened) × ((about board.now).quantum ≡ duty.quantum) × ((about board.now).limit ≡ duty.limit) }
     requires lanes { read_job (L.job end.old) ≡ the_job (about board.now) }
     requires task { OfJob (the_job (about board.now)) (read_task task.old) }
-    requires steps { (length (read_task task.old).pending ≤ duty.quantum) × AllJoins (HasSeenEnd (knows seat.old)) (read_task task.old).pending }
+    requires steps { CanSettle (knows seat.old) duty.quantum (read_task task.old) }
     ensures seat { Stays board.now seat.old seat.new }
     ensures lanes { L.job end.new ≡ L.job end.old }
     ensures rest { OfJob (the_job (about board.now)) (read_task task.new) × IsHandedOut (read_task task.old) (read_task task.new) }
-    ensures seen { IfOk result (λ on. on ≡ true → 0 < length (read_task task.old).pending → (b : Bool) × HasSeen (knows seat.new) (read_task task.old).local.path (read_task task.old).local.steps b) }
+    ensures seen { IfOk result (λ on. on ≡ true → IsSettled (knows seat.new) (read_task task.old)) }
 {
     let Some(segment) = task.segment(duty.worker) else {
         return Ok(true);

@@ -136,7 +136,7 @@ fn answer(board: Board, seats: Vec<BoardSeat>, over: bool, limit: u64) -> Result
 }
 
 /// Runs the job on a worker for each end, 1 to 16, which are spent. A turn has at most `quantum` steps, at least 1. The book of a whole run has the records
-/// of the serial meaning. StepLimit comes exactly where the job's work exceeds `limit`. It may wait.
+/// of the serial meaning. It comes only where the job's work is at most `limit`, and StepLimit only where the work exceeds it. It may wait.
 pub fn run_over<R: Threads + Wait + Sync, L: Lanes + Send, G: Gate>(
     rt: &R,
     alloc: Global,

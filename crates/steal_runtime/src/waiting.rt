@@ -4,8 +4,9 @@ ghost use Rattle.core_steps.specs.Moves.{read_job};
 ghost use Rattle.task_state.specs.Tasks.{awaited_of, read_task};
 ghost use Rattle.join_board.specs.Handles.{knows};
 ghost use Rattle.join_board.specs.Jobs.{the_job};
+ghost use Rattle.join_board.specs.Tasks.{CanRun};
 ghost use Rattle.steal_runtime.specs.Inside.Seats.{Sits, Stays, about};
-ghost use Rattle.steal_runtime.specs.Inside.Tasks.{AwaitsOne, CanRun};
+ghost use Rattle.steal_runtime.specs.Inside.Tasks.{AwaitsOne};
 
 use crate::put::put;
 use join_board::{Board, BoardSeat, Look, Park};

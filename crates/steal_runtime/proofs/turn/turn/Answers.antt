@@ -3,7 +3,7 @@ use Rattle.task_state.specs.Tasks.{read_task}
 use Rattle.join_board.specs.Handles.{knows}
 use Rattle.join_board.specs.Jobs.{the_job}
 use Rattle.steal_runtime.specs.Inside.Seats.{about}
-use Rattle.steal_runtime.specs.Inside.Tasks.{CanRun}
+use Rattle.join_board.specs.Tasks.{CanRun}
 use Rattle.steal_runtime.proofs.Seats.{same_trans}
 use Rattle.steal_runtime.proofs.Tasks.{can_run_on}
 use Rattle.steal_runtime.proofs.turn.turn.Goals as goal

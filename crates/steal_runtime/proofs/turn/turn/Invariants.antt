@@ -4,7 +4,7 @@ use Rattle.join_board.specs.Calls.{SameSeat}
 use Rattle.join_board.specs.Handles.{knows}
 use Rattle.join_board.specs.Jobs.{the_job}
 use Rattle.steal_runtime.specs.Inside.Seats.{Sits, about}
-use Rattle.steal_runtime.specs.Inside.Tasks.{CanRun}
+use Rattle.join_board.specs.Tasks.{CanRun}
 use Rattle.steal_runtime.proofs.turn.turn.Given as goal
 
 abbrev pub invariant-loop : goal.invariant-loop

@@ -17,20 +17,20 @@ use Rattle.source_grammar.specs.Lists.{body_of}
 use Rattle.source_grammar.specs.Grammar.{sign, word, name, IsListed, IsName, IsExpr, IsPriorities, IsBlock, IsBody, IsAction}
 use Rattle.source_grammar.proofs.CommaLists.{listed_map}
 
--- A block that is made.
-binds_are : (n : Count) (row : Row_of-RawBind n) (body : RawBody) → read_binds row body ≡ body_of (items-the_row-RawBind n row) body
-binds_are n end_of-RawBind body = refl
-binds_are n (more_of-RawBind {n = m} name at act rest) body = ap (bind name at (read_action act)) (binds_are m rest body)
-
-pub code_is : (b : RawBlock) → read_block b ≡ block (out-RawBlock b).at (body_of (out-RawBlock b).binds.items (read_tail (out-RawBlock b).tail.form (out-RawBlock b).tail.at))
-unfolding out-RawBlock Rattle.source_grammar.specs.declared.raw.RawAction.TheBlock.shown-the_row-RawBind-0 denote.Hole.Carrier.out
-code_is (RawBlock' at shape row i tail) = ap (block at) (binds_are _ row (read_tail tail i) ∙ ap (λ xs. body_of xs (read_tail tail i)) (sym (items_shown-the_row-RawBind-0 shape row)))
-
+-- A block that is made, by its parts.
 abbrev pub Level : Type 0
 Level = RawBlock-F RawAction RawTailForm RawBind RawBlock RawTail
 
 abbrev level_code : Level → RawCode
 level_code r = block r.at (body_of r.binds.items (read_tail r.tail.form r.tail.at))
+
+binds_are : (n : Count) (row : Row_of-RawBind n) (body : RawBody) → read_binds row body ≡ body_of (items-the_row-RawBind n row) body
+binds_are n end_of-RawBind body = refl
+binds_are n (more_of-RawBind {n = m} name at act rest) body = ap (bind name at (read_action act)) (binds_are m rest body)
+
+pub code_is : (b : RawBlock) → read_block b ≡ level_code (out-RawBlock b)
+unfolding out-RawBlock Rattle.source_grammar.specs.declared.raw.RawAction.TheBlock.shown-the_row-RawBind-0 denote.Hole.Carrier.out
+code_is (RawBlock' at shape row i tail) = ap (block at) (binds_are _ row (read_tail tail i) ∙ ap (λ xs. body_of xs (read_tail tail i)) (sym (items_shown-the_row-RawBind-0 shape row)))
 
 pub rolled : (r : Level) → read_block (roll-RawBlock r) ≡ level_code r
 rolled r = code_is (roll-RawBlock r) ∙ ap level_code (out-roll-RawBlock r)

@@ -1,16 +1,13 @@
 -- What one token does to the symbols of blocks and actions.
 use Rattle.std.proofs.Common.{List, [], ◌∷◌, ◌≡◌, Some, None, true, false, cond, refl, sym, ap, ◌∙◌}
 use Rattle.source_tokens.specs.declared.token.Token.{Token}
-use Rattle.source_tokens.specs.declared.token.Kind.{Kind}
 use Rattle.source_tokens.specs.declared.token.Word.TheVariants as w
 use Rattle.source_tokens.specs.declared.token.Sign.TheVariants as s
-use Rattle.source_grammar.specs.declared.choice.ActionForm.{ActionForm}
 use Rattle.source_grammar.specs.declared.choice.ActionForm.TheVariants as action
-use Rattle.source_grammar.specs.declared.choice.TailForm.{TailForm}
 use Rattle.source_grammar.specs.declared.choice.TailForm.TheVariants as tail
 use Rattle.source_grammar.specs.Next.{is_at, form_at, is_name, is_sign, action_form, tail_form}
-use Rattle.source_grammar.specs.Machine.{Symbol, parens, brackets, rule, halt, and_then, by_form, rule_action_form, rule_tail_form, rule_bind, rule_tail, rule_call_priorities, AName, AWord, ASign, AtEnd, Listed, Expr, Block, Binds, Bind, Tail, Give, Branch, Split, Action, Returned, Spawn, Sync, Call, Run, Input, Output, CallOpen, CallPriorities}
-use Rattle.source_grammar.proofs.Steps.{begins, begins_here, halt-end, same, tested, chosen, nothing_chosen}
+use Rattle.source_grammar.specs.Machine.{Symbol, parens, brackets, halt, by_form, and_then, rule_bind, rule_tail, rule_call_priorities, AName, AWord, ASign, AtEnd, Listed, Expr, Block, Binds, Bind, Tail, TailOf, Action, ActionOf, CallOpen, CallPriorities}
+use Rattle.source_grammar.proofs.Steps.{begins, begins_here, halt-end, same, tested, chosen}
 
 -- Straight lines.
 pub halt-block : (xs : List Symbol) (ts : List Token) → halt (Block ∷ xs) ts ≡ halt (ASign s.OpenBrace ∷ Binds ∷ xs) ts
@@ -19,38 +16,38 @@ halt-block xs ts = begins _ _ (Binds ∷ []) xs ts (λ kind. refl)
 pub halt-bind : (xs : List Symbol) (ts : List Token) → halt (Bind ∷ xs) ts ≡ halt (AName ∷ ASign s.Arrow ∷ Action ∷ ASign s.Semicolon ∷ xs) ts
 halt-bind xs ts = begins _ _ (ASign s.Arrow ∷ Action ∷ ASign s.Semicolon ∷ []) xs ts (λ kind. refl)
 
-pub halt-give : (xs : List Symbol) (ts : List Token) → halt (Give ∷ xs) ts ≡ halt (AWord w.Ret ∷ Expr ∷ xs) ts
+pub halt-give : (xs : List Symbol) (ts : List Token) → halt (TailOf tail.Give ∷ xs) ts ≡ halt (AWord w.Ret ∷ Expr ∷ xs) ts
 halt-give xs ts = begins _ _ (Expr ∷ []) xs ts (λ kind. refl)
 
-pub halt-branch : (xs : List Symbol) (ts : List Token) → halt (Branch ∷ xs) ts ≡ halt (AWord w.If ∷ Expr ∷ Block ∷ AWord w.Else ∷ Block ∷ xs) ts
+pub halt-branch : (xs : List Symbol) (ts : List Token) → halt (TailOf tail.Branch ∷ xs) ts ≡ halt (AWord w.If ∷ Expr ∷ Block ∷ AWord w.Else ∷ Block ∷ xs) ts
 halt-branch xs ts = begins _ _ (Expr ∷ Block ∷ AWord w.Else ∷ Block ∷ []) xs ts (λ kind. refl)
 
-pub halt-split : (xs : List Symbol) (ts : List Token) → halt (Split ∷ xs) ts ≡ halt (AWord w.Case ∷ Expr ∷ AWord w.Inl ∷ AName ∷ Block ∷ AWord w.Inr ∷ AName ∷ Block ∷ xs) ts
+pub halt-split : (xs : List Symbol) (ts : List Token) → halt (TailOf tail.Split ∷ xs) ts ≡ halt (AWord w.Case ∷ Expr ∷ AWord w.Inl ∷ AName ∷ Block ∷ AWord w.Inr ∷ AName ∷ Block ∷ xs) ts
 halt-split xs ts = begins _ _ (Expr ∷ AWord w.Inl ∷ AName ∷ Block ∷ AWord w.Inr ∷ AName ∷ Block ∷ []) xs ts (λ kind. refl)
 
-pub halt-returned : (xs : List Symbol) (ts : List Token) → halt (Returned ∷ xs) ts ≡ halt (AWord w.Ret ∷ Expr ∷ xs) ts
+pub halt-returned : (xs : List Symbol) (ts : List Token) → halt (ActionOf action.Returned ∷ xs) ts ≡ halt (AWord w.Ret ∷ Expr ∷ xs) ts
 halt-returned xs ts = begins _ _ (Expr ∷ []) xs ts (λ kind. refl)
 
-pub halt-spawn : (xs : List Symbol) (ts : List Token) → halt (Spawn ∷ xs) ts ≡ halt (AWord w.Spawn ∷ ASign s.OpenBracket ∷ AName ∷ ASign s.CloseBracket ∷ Block ∷ xs) ts
+pub halt-spawn : (xs : List Symbol) (ts : List Token) → halt (ActionOf action.Spawn ∷ xs) ts ≡ halt (AWord w.Spawn ∷ ASign s.OpenBracket ∷ AName ∷ ASign s.CloseBracket ∷ Block ∷ xs) ts
 halt-spawn xs ts = begins _ _ (ASign s.OpenBracket ∷ AName ∷ ASign s.CloseBracket ∷ Block ∷ []) xs ts (λ kind. refl)
 
-pub halt-sync : (xs : List Symbol) (ts : List Token) → halt (Sync ∷ xs) ts ≡ halt (AWord w.Sync ∷ AName ∷ xs) ts
+pub halt-sync : (xs : List Symbol) (ts : List Token) → halt (ActionOf action.Sync ∷ xs) ts ≡ halt (AWord w.Sync ∷ AName ∷ xs) ts
 halt-sync xs ts = begins _ _ (AName ∷ []) xs ts (λ kind. refl)
 
-pub halt-call : (xs : List Symbol) (ts : List Token) → halt (Call ∷ xs) ts ≡ halt (AWord w.Call ∷ AName ∷ CallOpen ∷ Listed Expr parens ∷ xs) ts
+pub halt-call : (xs : List Symbol) (ts : List Token) → halt (ActionOf action.Call ∷ xs) ts ≡ halt (AWord w.Call ∷ AName ∷ CallOpen ∷ Listed Expr parens ∷ xs) ts
 halt-call xs ts = begins _ _ (AName ∷ CallOpen ∷ Listed Expr parens ∷ []) xs ts (λ kind. refl)
 
-pub halt-run : (xs : List Symbol) (ts : List Token) → halt (Run ∷ xs) ts ≡ halt (AWord w.Do ∷ Block ∷ xs) ts
+pub halt-run : (xs : List Symbol) (ts : List Token) → halt (ActionOf action.Run ∷ xs) ts ≡ halt (AWord w.Do ∷ Block ∷ xs) ts
 halt-run xs ts = begins _ _ (Block ∷ []) xs ts (λ kind. refl)
 
-pub halt-output : (xs : List Symbol) (ts : List Token) → halt (Output ∷ xs) ts ≡ halt (AWord w.Output ∷ Expr ∷ xs) ts
+pub halt-output : (xs : List Symbol) (ts : List Token) → halt (ActionOf action.Output ∷ xs) ts ≡ halt (AWord w.Output ∷ Expr ∷ xs) ts
 halt-output xs ts = begins _ _ (Expr ∷ []) xs ts (λ kind. refl)
 
 pub halt-call_priorities : (xs : List Symbol) (ts : List Token) → halt (CallPriorities ∷ xs) ts ≡ halt (ASign s.OpenBracket ∷ Listed AName brackets ∷ ASign s.OpenParen ∷ xs) ts
 halt-call_priorities xs ts = begins _ _ (Listed AName brackets ∷ ASign s.OpenParen ∷ []) xs ts (λ kind. refl)
 
 -- One symbol for another.
-pub halt-input : (xs : List Symbol) (ts : List Token) → halt (Input ∷ xs) ts ≡ halt (AWord w.Input ∷ xs) ts
+pub halt-input : (xs : List Symbol) (ts : List Token) → halt (ActionOf action.Input ∷ xs) ts ≡ halt (AWord w.Input ∷ xs) ts
 halt-input xs ts = same _ _ xs ts (λ kind. refl)
 
 pub end-parens : (xs : List Symbol) (ts : List Token) → halt (AtEnd parens ∷ xs) ts ≡ halt (ASign s.CloseParen ∷ xs) ts
@@ -59,43 +56,12 @@ end-parens xs ts = same _ _ xs ts (λ kind. refl)
 pub end-brackets : (xs : List Symbol) (ts : List Token) → halt (AtEnd brackets ∷ xs) ts ≡ halt (ASign s.CloseBracket ∷ xs) ts
 end-brackets xs ts = same _ _ xs ts (λ kind. refl)
 
--- The next token chooses an action.
-pub action-returned : (xs : List Symbol) (ts : List Token) → form_at action_form ts ≡ Some action.Returned → halt (Action ∷ xs) ts ≡ halt (Returned ∷ xs) ts
-action-returned xs ts h = chosen Action Returned action_form rule_action_form action.Returned xs ts (λ kind. refl) (λ kind. refl) h
+-- The next token chooses an action, and an ending.
+pub action-form : (xs : List Symbol) (ts : List Token) → halt (Action ∷ xs) ts ≡ by_form (form_at action_form ts) (λ f. halt (ActionOf f ∷ xs) ts) (Some ts)
+action-form xs ts = chosen Action ActionOf action_form xs ts (λ kind. refl)
 
-pub action-spawn : (xs : List Symbol) (ts : List Token) → form_at action_form ts ≡ Some action.Spawn → halt (Action ∷ xs) ts ≡ halt (Spawn ∷ xs) ts
-action-spawn xs ts h = chosen Action Spawn action_form rule_action_form action.Spawn xs ts (λ kind. refl) (λ kind. refl) h
-
-pub action-sync : (xs : List Symbol) (ts : List Token) → form_at action_form ts ≡ Some action.Sync → halt (Action ∷ xs) ts ≡ halt (Sync ∷ xs) ts
-action-sync xs ts h = chosen Action Sync action_form rule_action_form action.Sync xs ts (λ kind. refl) (λ kind. refl) h
-
-pub action-call : (xs : List Symbol) (ts : List Token) → form_at action_form ts ≡ Some action.Call → halt (Action ∷ xs) ts ≡ halt (Call ∷ xs) ts
-action-call xs ts h = chosen Action Call action_form rule_action_form action.Call xs ts (λ kind. refl) (λ kind. refl) h
-
-pub action-run : (xs : List Symbol) (ts : List Token) → form_at action_form ts ≡ Some action.Run → halt (Action ∷ xs) ts ≡ halt (Run ∷ xs) ts
-action-run xs ts h = chosen Action Run action_form rule_action_form action.Run xs ts (λ kind. refl) (λ kind. refl) h
-
-pub action-input : (xs : List Symbol) (ts : List Token) → form_at action_form ts ≡ Some action.Input → halt (Action ∷ xs) ts ≡ halt (Input ∷ xs) ts
-action-input xs ts h = chosen Action Input action_form rule_action_form action.Input xs ts (λ kind. refl) (λ kind. refl) h
-
-pub action-output : (xs : List Symbol) (ts : List Token) → form_at action_form ts ≡ Some action.Output → halt (Action ∷ xs) ts ≡ halt (Output ∷ xs) ts
-action-output xs ts h = chosen Action Output action_form rule_action_form action.Output xs ts (λ kind. refl) (λ kind. refl) h
-
-pub action-none : (xs : List Symbol) (ts : List Token) → form_at action_form ts ≡ None → halt (Action ∷ xs) ts ≡ Some ts
-action-none xs ts h = nothing_chosen Action action_form rule_action_form xs ts (λ kind. refl) h
-
--- The next token chooses an ending.
-pub tail-give : (xs : List Symbol) (ts : List Token) → form_at tail_form ts ≡ Some tail.Give → halt (Tail ∷ xs) ts ≡ halt (Give ∷ xs) ts
-tail-give xs ts h = chosen Tail Give tail_form rule_tail_form tail.Give xs ts (λ kind. refl) (λ kind. refl) h
-
-pub tail-branch : (xs : List Symbol) (ts : List Token) → form_at tail_form ts ≡ Some tail.Branch → halt (Tail ∷ xs) ts ≡ halt (Branch ∷ xs) ts
-tail-branch xs ts h = chosen Tail Branch tail_form rule_tail_form tail.Branch xs ts (λ kind. refl) (λ kind. refl) h
-
-pub tail-split : (xs : List Symbol) (ts : List Token) → form_at tail_form ts ≡ Some tail.Split → halt (Tail ∷ xs) ts ≡ halt (Split ∷ xs) ts
-tail-split xs ts h = chosen Tail Split tail_form rule_tail_form tail.Split xs ts (λ kind. refl) (λ kind. refl) h
-
-pub tail-none : (xs : List Symbol) (ts : List Token) → form_at tail_form ts ≡ None → halt (Tail ∷ xs) ts ≡ Some ts
-tail-none xs ts h = nothing_chosen Tail tail_form rule_tail_form xs ts (λ kind. refl) h
+pub tail-form : (xs : List Symbol) (ts : List Token) → halt (Tail ∷ xs) ts ≡ by_form (form_at tail_form ts) (λ f. halt (TailOf f ∷ xs) ts) (Some ts)
+tail-form xs ts = chosen Tail TailOf tail_form xs ts (λ kind. refl)
 
 -- In a block a name begins a bound action, and anything else is the ending's.
 pub binds-name : (xs : List Symbol) (ts : List Token) → is_at is_name ts ≡ true → halt (Binds ∷ xs) ts ≡ halt (Bind ∷ Binds ∷ xs) ts
@@ -118,4 +84,4 @@ call-priorities xs ts h = tested CallOpen CallPriorities (is_sign s.OpenParen) f
 
 pub ruleset steps = (halt-block, halt-bind, halt-give, halt-branch, halt-split, halt-returned, halt-spawn, halt-sync, halt-call, halt-run, halt-output, halt-call_priorities, halt-input, end-parens, end-brackets)
 
-pub ruleset choices = (action-returned, action-spawn, action-sync, action-call, action-run, action-input, action-output, action-none, tail-give, tail-branch, tail-split, tail-none, call-open, call-priorities)
+pub ruleset choices = (action-form, tail-form, call-open, call-priorities)

@@ -16,11 +16,11 @@ use Rattle.source_grammar.specs.Joined.{mid_type, prefix_term, side_term, joint_
 use Rattle.source_grammar.specs.RawTree.{unit, bool, int, thread, RawTerm, var, number, bool_term, unit_term}
 use Rattle.source_grammar.specs.Grammar.{token, sign, IsSeparated, IsListed, IsType, IsWritten, IsExpr}
 use Rattle.source_grammar.specs.Ends.{BeginsOtherwise}
-use Rattle.source_grammar.specs.Machine.{Symbol, End, halt, AName, ASign, AtEnd, More, Separated, Listed, Ty, SimpleTy, ThreadTy, PairedTy, TyMid, Expr, Leaf, Opened, Inside, Behind, AJoint, Applied, Injected}
+use Rattle.source_grammar.specs.Machine.{Symbol, End, by_form, halt, AName, ASign, AtEnd, More, Separated, Listed, Ty, TyOf, TyMid, Expr, ExprOf, Inside, Behind, AJoint}
 use Rattle.source_grammar.proofs.Forms.{thread_made, paired_made, opened_made, nothing_made, closed_made, joined_made, applied_made, injected_made}
-use Rattle.source_grammar.proofs.Steps.{halt-thread_ty, halt-paired_ty, halt-opened, halt-bracketed, halt-joined, halt-applied, halt-injected, ty-simple, ty-thread, ty-paired, ty-none, expr-leaf, expr-opened, expr-applied, expr-injected, expr-none, inside-close, inside-more, behind-close, behind-more}
+use Rattle.source_grammar.proofs.Steps.{halt-thread_ty, halt-paired_ty, halt-opened, halt-bracketed, halt-joined, halt-applied, halt-injected, ty-form, expr-form, inside-close, inside-more, behind-close, behind-more}
 use Rattle.source_grammar.proofs.CommaLists.{halt-separated, halt-behind_comma, listed-end, listed-more, more-comma, more-end}
-use Rattle.source_grammar.proofs.Taken.{word_taken, sign_taken, name_taken, form_taken, not_at_end}
+use Rattle.source_grammar.proofs.Taken.{BeginsWith, word_taken, sign_taken, name_taken, form_taken, not_at_end}
 
 -- The tokens begin with a tree of a form, and the symbols behind it take the rest.
 pub record Found {A : Type 0} (Is : List Token → A → Type 0) (xs : List Symbol) (ts : List Token) : Type 0 where
@@ -93,17 +93,27 @@ by_length : {A : Type 0} (Is : List Token → List Token → A → Type 0) (y : 
     → ((n : ℕ) → Below Is y n → (xs : List Symbol) (ts : List Token) → length ts ≤ n → halt (y ∷ xs) ts ≡ None → Found (Is ts) xs ts) → ItemFound Is y
 by_length Is y step xs ts h = below Is y step (length ts + 1) xs ts (omega arith) h
 
+-- An item in brackets.
+record InBrackets {A : Type 0} (Is : List Token → List Token → A → Type 0) (y : Symbol) (xs : List Symbol) (ts : List Token) : Type 0 where
+  opening : BeginsWith (k.Sign s.OpenParen) (y ∷ ASign s.CloseParen ∷ xs) ts
+  item : Found (Is opening.rest) (ASign s.CloseParen ∷ xs) opening.rest
+  closing : BeginsWith (k.Sign s.CloseParen) xs item.rest
+
+in_brackets : {A : Type 0} (Is : List Token → List Token → A → Type 0) (y : Symbol) (n : ℕ) → Below Is y n
+    → (xs : List Symbol) (ts : List Token) → length ts ≤ n → halt (ASign s.OpenParen ∷ y ∷ ASign s.CloseParen ∷ xs) ts ≡ None → InBrackets Is y xs ts
+in_brackets Is y n below xs ts l h =
+    let a = sign_taken s.OpenParen (y ∷ ASign s.CloseParen ∷ xs) ts h in
+    let x = below (ASign s.CloseParen ∷ xs) a.rest (omega (arith, a.shorter)) a.takes in
+    record { opening = a; item = x; closing = sign_taken s.CloseParen xs x.rest x.takes }
+
 -- An item whose form the next token chooses.
-pub by_choice : {A F : Type 0} (Is : List Token → List Token → A → Type 0) (y : Symbol) (form : Kind → Option F) (xs : List Symbol) (ts : List Token)
-    → (form_at form ts ≡ None → halt (y ∷ xs) ts ≡ Some ts) → ((f : F) → form_at form ts ≡ Some f → Found (Is ts) xs ts) → halt (y ∷ xs) ts ≡ None → Found (Is ts) xs ts
-by_choice Is y form xs ts none some h = by (form_at form ts) refl
-  where
-    by : (o : Option _) → form_at form ts ≡ o → Found (Is ts) xs ts
-    by None e = absurd (let f : Some ts ≡ None = sym (none e) ∙ h in cc)
-    by (Some f) e = some f e
+pub by_choice : {A F : Type 0} (Is : List Token → List Token → A → Type 0) (y : F → Symbol) (o : Option F) (xs : List Symbol) (ts : List Token)
+    → ((f : F) → halt (y f ∷ xs) ts ≡ None → Found (Is ts) xs ts) → by_form o (λ f. halt (y f ∷ xs) ts) (Some ts) ≡ None → Found (Is ts) xs ts
+by_choice Is y None xs ts found h = absurd (cc)
+by_choice Is y (Some f) xs ts found h = found f h
 
 -- Types.
-simple_here : (xs : List Symbol) (at : ℕ) (kind : Kind) (ts : List Token) → halt (SimpleTy ∷ xs) (token at kind ∷ ts) ≡ None → Found (IsWritten (token at kind ∷ ts)) xs (token at kind ∷ ts)
+simple_here : (xs : List Symbol) (at : ℕ) (kind : Kind) (ts : List Token) → halt (TyOf ty.Simple ∷ xs) (token at kind ∷ ts) ≡ None → Found (IsWritten (token at kind ∷ ts)) xs (token at kind ∷ ts)
 unfolding halt
 simple_here xs at (k.Word w.Unit) ts h = record { tree = record { at = at; ty = unit }; rest = ts; is = IsWritten.is_written (IsType.is_unit at); shorter = omega arith; takes = h }
 simple_here xs at (k.Word w.Bool) ts h = record { tree = record { at = at; ty = bool }; rest = ts; is = IsWritten.is_written (IsType.is_bool at); shorter = omega arith; takes = h }
@@ -111,15 +121,13 @@ simple_here xs at (k.Word w.Int) ts h = record { tree = record { at = at; ty = i
 simple_here xs at _ ts h = absurd (cc)
 
 module _ (n : ℕ) (below : Below IsWritten Ty n) where
-  thread_found : (xs : List Symbol) (ts : List Token) → length ts ≤ n → halt (ThreadTy ∷ xs) ts ≡ None → Found (IsWritten ts) xs ts
+  thread_found : (xs : List Symbol) (ts : List Token) → length ts ≤ n → halt (TyOf ty.Thread ∷ xs) ts ≡ None → Found (IsWritten ts) xs ts
   thread_found xs ts l h =
       let p = word_taken w.Thread (ASign s.OpenBracket ∷ AName ∷ ASign s.CloseBracket ∷ ASign s.OpenParen ∷ Ty ∷ ASign s.CloseParen ∷ xs) ts (sym (halt-thread_ty xs ts) ∙ h) in
       let a = sign_taken s.OpenBracket (AName ∷ ASign s.CloseBracket ∷ ASign s.OpenParen ∷ Ty ∷ ASign s.CloseParen ∷ xs) p.rest p.takes in
       let q = name_taken (ASign s.CloseBracket ∷ ASign s.OpenParen ∷ Ty ∷ ASign s.CloseParen ∷ xs) a.rest a.takes in
       let b = sign_taken s.CloseBracket (ASign s.OpenParen ∷ Ty ∷ ASign s.CloseParen ∷ xs) q.rest q.takes in
-      let c = sign_taken s.OpenParen (Ty ∷ ASign s.CloseParen ∷ xs) b.rest b.takes in
-      let t = below (ASign s.CloseParen ∷ xs) c.rest (omega (arith, p.shorter, a.shorter, q.shorter, b.shorter, c.shorter)) c.takes in
-      let d = sign_taken s.CloseParen xs t.rest t.takes in
+      let record { opening = c; item = t; closing = d } = in_brackets IsWritten Ty n below xs b.rest (omega (arith, p.shorter, a.shorter, q.shorter, b.shorter)) b.takes in
       record {
         tree = record { at = p.at; ty = thread q.it t.tree.ty };
         rest = d.rest;
@@ -128,7 +136,7 @@ module _ (n : ℕ) (below : Below IsWritten Ty n) where
         takes = d.takes;
       }
 
-  paired_found : (xs : List Symbol) (ts : List Token) → length ts ≤ n → halt (PairedTy ∷ xs) ts ≡ None → Found (IsWritten ts) xs ts
+  paired_found : (xs : List Symbol) (ts : List Token) → length ts ≤ n → halt (TyOf ty.Paired ∷ xs) ts ≡ None → Found (IsWritten ts) xs ts
   paired_found xs ts l h =
       let p = sign_taken s.OpenParen (Ty ∷ TyMid ∷ Ty ∷ ASign s.CloseParen ∷ xs) ts (sym (halt-paired_ty xs ts) ∙ h) in
       let t = below (TyMid ∷ Ty ∷ ASign s.CloseParen ∷ xs) p.rest (omega (arith, p.shorter)) p.takes in
@@ -143,16 +151,16 @@ module _ (n : ℕ) (below : Below IsWritten Ty n) where
         takes = d.takes;
       }
 
-  ty_step : (xs : List Symbol) (ts : List Token) → length ts ≤ n → halt (Ty ∷ xs) ts ≡ None → (f : TyForm) → form_at ty_form ts ≡ Some f → Found (IsWritten ts) xs ts
-  ty_step xs ts l h ty.Simple e = one_found IsWritten SimpleTy simple_here xs ts (sym (ty-simple xs ts e) ∙ h)
-  ty_step xs ts l h ty.Thread e = thread_found xs ts l (sym (ty-thread xs ts e) ∙ h)
-  ty_step xs ts l h ty.Paired e = paired_found xs ts l (sym (ty-paired xs ts e) ∙ h)
+  ty_step : (xs : List Symbol) (ts : List Token) → length ts ≤ n → (f : TyForm) → halt (TyOf f ∷ xs) ts ≡ None → Found (IsWritten ts) xs ts
+  ty_step xs ts l ty.Simple h = one_found IsWritten (TyOf ty.Simple) simple_here xs ts h
+  ty_step xs ts l ty.Thread h = thread_found xs ts l h
+  ty_step xs ts l ty.Paired h = paired_found xs ts l h
 
 pub ty_found : ItemFound IsWritten Ty
-ty_found = by_length IsWritten Ty (λ n below xs ts l h. by_choice IsWritten Ty ty_form xs ts (ty-none xs ts) (ty_step n below xs ts l h) h)
+ty_found = by_length IsWritten Ty (λ n below xs ts l h. by_choice IsWritten TyOf (form_at ty_form ts) xs ts (ty_step n below xs ts l) (sym (ty-form xs ts) ∙ h))
 
 -- Expressions.
-leaf_here : (xs : List Symbol) (at : ℕ) (kind : Kind) (ts : List Token) → halt (Leaf ∷ xs) (token at kind ∷ ts) ≡ None → Found (IsExpr (token at kind ∷ ts)) xs (token at kind ∷ ts)
+leaf_here : (xs : List Symbol) (at : ℕ) (kind : Kind) (ts : List Token) → halt (ExprOf expr.Leaf ∷ xs) (token at kind ∷ ts) ≡ None → Found (IsExpr (token at kind ∷ ts)) xs (token at kind ∷ ts)
 unfolding halt
 leaf_here xs at (k.Name n) ts h = record { tree = var at n; rest = ts; is = IsExpr.is_var (record { at = at; id = n }); shorter = omega arith; takes = h }
 leaf_here xs at (k.Number n) ts h = record { tree = number at n; rest = ts; is = IsExpr.is_number at n; shorter = omega arith; takes = h }
@@ -188,18 +196,16 @@ module _ (n : ℕ) (below : Below IsExpr Expr n) where
       let b = behind_found at xs x.rest ts x.tree x.is (omega (arith, x.shorter)) x.takes (is_at (is_sign s.CloseParen) x.rest) (refl {a = is_at (is_sign s.CloseParen) x.rest}) in
       record { tree = b.tree; rest = b.rest; is = b.is; shorter = omega (arith, x.shorter, b.shorter); takes = b.takes }
 
-  opened_found : (xs : List Symbol) (ts : List Token) → length ts ≤ n → halt (Opened ∷ xs) ts ≡ None → Found (IsExpr ts) xs ts
+  opened_found : (xs : List Symbol) (ts : List Token) → length ts ≤ n → halt (ExprOf expr.Opened ∷ xs) ts ≡ None → Found (IsExpr ts) xs ts
   opened_found xs ts l h =
       let p = sign_taken s.OpenParen (Inside ∷ xs) ts (sym (halt-opened xs ts) ∙ h) in
       let x = inside_found p.at xs p.rest (omega (arith, p.shorter)) p.takes (is_at (is_sign s.CloseParen) p.rest) (refl {a = is_at (is_sign s.CloseParen) p.rest}) in
       record { tree = x.tree; rest = x.rest; is = opened_made ts p.rest x.rest p.at x.tree p.is x.is; shorter = omega (arith, p.shorter, x.shorter); takes = x.takes }
 
-  applied_found : (p : Prefix) (xs : List Symbol) (ts : List Token) → length ts ≤ n → halt (Applied p ∷ xs) ts ≡ None → Found (IsExpr ts) xs ts
+  applied_found : (p : Prefix) (xs : List Symbol) (ts : List Token) → length ts ≤ n → halt (ExprOf (expr.Applied p) ∷ xs) ts ≡ None → Found (IsExpr ts) xs ts
   applied_found p xs ts l h =
       let a = word_taken (prefix_word p) (ASign s.OpenParen ∷ Expr ∷ ASign s.CloseParen ∷ xs) ts (sym (halt-applied p xs ts) ∙ h) in
-      let b = sign_taken s.OpenParen (Expr ∷ ASign s.CloseParen ∷ xs) a.rest a.takes in
-      let x = below (ASign s.CloseParen ∷ xs) b.rest (omega (arith, a.shorter, b.shorter)) b.takes in
-      let d = sign_taken s.CloseParen xs x.rest x.takes in
+      let record { opening = b; item = x; closing = d } = in_brackets IsExpr Expr n below xs a.rest (omega (arith, a.shorter)) a.takes in
       record {
         tree = prefix_term p a.at x.tree;
         rest = d.rest;
@@ -208,15 +214,13 @@ module _ (n : ℕ) (below : Below IsExpr Expr n) where
         takes = d.takes;
       }
 
-  injected_found : (side : Side) (xs : List Symbol) (ts : List Token) → length ts ≤ n → halt (Injected side ∷ xs) ts ≡ None → Found (IsExpr ts) xs ts
+  injected_found : (side : Side) (xs : List Symbol) (ts : List Token) → length ts ≤ n → halt (ExprOf (expr.Injected side) ∷ xs) ts ≡ None → Found (IsExpr ts) xs ts
   injected_found side xs ts l h =
       let a = word_taken (side_word side) (ASign s.OpenBracket ∷ Ty ∷ ASign s.CloseBracket ∷ ASign s.OpenParen ∷ Expr ∷ ASign s.CloseParen ∷ xs) ts (sym (halt-injected side xs ts) ∙ h) in
       let b = sign_taken s.OpenBracket (Ty ∷ ASign s.CloseBracket ∷ ASign s.OpenParen ∷ Expr ∷ ASign s.CloseParen ∷ xs) a.rest a.takes in
       let t = ty_found (ASign s.CloseBracket ∷ ASign s.OpenParen ∷ Expr ∷ ASign s.CloseParen ∷ xs) b.rest b.takes in
       let c = sign_taken s.CloseBracket (ASign s.OpenParen ∷ Expr ∷ ASign s.CloseParen ∷ xs) t.rest t.takes in
-      let d = sign_taken s.OpenParen (Expr ∷ ASign s.CloseParen ∷ xs) c.rest c.takes in
-      let x = below (ASign s.CloseParen ∷ xs) d.rest (omega (arith, a.shorter, b.shorter, t.shorter, c.shorter, d.shorter)) d.takes in
-      let e = sign_taken s.CloseParen xs x.rest x.takes in
+      let record { opening = d; item = x; closing = e } = in_brackets IsExpr Expr n below xs c.rest (omega (arith, a.shorter, b.shorter, t.shorter, c.shorter)) c.takes in
       record {
         tree = side_term side a.at t.tree x.tree;
         rest = e.rest;
@@ -225,11 +229,11 @@ module _ (n : ℕ) (below : Below IsExpr Expr n) where
         takes = e.takes;
       }
 
-  expr_step : (xs : List Symbol) (ts : List Token) → length ts ≤ n → halt (Expr ∷ xs) ts ≡ None → (f : ExprForm) → form_at expr_form ts ≡ Some f → Found (IsExpr ts) xs ts
-  expr_step xs ts l h expr.Leaf e = one_found IsExpr Leaf leaf_here xs ts (sym (expr-leaf xs ts e) ∙ h)
-  expr_step xs ts l h expr.Opened e = opened_found xs ts l (sym (expr-opened xs ts e) ∙ h)
-  expr_step xs ts l h (expr.Applied p) e = applied_found p xs ts l (expr-applied xs ts p e ∙ h)
-  expr_step xs ts l h (expr.Injected d) e = injected_found d xs ts l (expr-injected xs ts d e ∙ h)
+  expr_step : (xs : List Symbol) (ts : List Token) → length ts ≤ n → (f : ExprForm) → halt (ExprOf f ∷ xs) ts ≡ None → Found (IsExpr ts) xs ts
+  expr_step xs ts l expr.Leaf h = one_found IsExpr (ExprOf expr.Leaf) leaf_here xs ts h
+  expr_step xs ts l expr.Opened h = opened_found xs ts l h
+  expr_step xs ts l (expr.Applied p) h = applied_found p xs ts l h
+  expr_step xs ts l (expr.Injected d) h = injected_found d xs ts l h
 
 pub expr_found : ItemFound IsExpr Expr
-expr_found = by_length IsExpr Expr (λ n below xs ts l h. by_choice IsExpr Expr expr_form xs ts (expr-none xs ts) (expr_step n below xs ts l h) h)
+expr_found = by_length IsExpr Expr (λ n below xs ts l h. by_choice IsExpr ExprOf (form_at expr_form ts) xs ts (expr_step n below xs ts l) (sym (expr-form xs ts) ∙ h))

@@ -16,13 +16,13 @@ use Rattle.source_grammar.specs.Ends.{name_no_end, expr_no_end, parameter_no_end
 use Rattle.source_grammar.specs.Joined.{EndsHead}
 use Rattle.source_grammar.specs.RawTree.{block, RawBody, bind, ret_tail, if_tail, case_tail, RawAct, ret, spawn, sync, call, do_block, input, output, Declaration, priority, order, procedure, RawTree}
 use Rattle.source_grammar.specs.Grammar.{sign, IsName, IsExpr, IsPriorities, IsBlock, IsBody, IsAction, IsGiven, IsParameter, IsHead, IsRoutine, IsProcedure, IsDecls, IsMain, IsProgram}
-use Rattle.source_grammar.specs.Machine.{Symbol, parens, brackets, variables, halt, declaration_symbol, AName, AWord, ASign, AtEnd, Separated, Listed, Ty, Expr, Block, Binds, Bind, Tail, Give, Branch, Split, Action, Returned, Spawn, Sync, Call, Run, Input, Output, CallOpen, CallPriorities, Program, Priority, Order, Procedure, Main, Routine, HeadOpen, HeadVariables, HeadEnd, HeadClose, HeadGiven, Given}
+use Rattle.source_grammar.specs.Machine.{Symbol, parens, brackets, variables, halt, declaration_symbol, AName, AWord, ASign, AtEnd, Separated, Listed, Ty, Expr, Block, Binds, Bind, Tail, TailOf, Action, ActionOf, CallOpen, CallPriorities, Program, Priority, Order, Procedure, Main, Routine, HeadOpen, HeadVariables, HeadEnd, HeadClose, HeadGiven, Given}
 use Rattle.source_grammar.specs.Machine as m
 use Rattle.source_grammar.proofs.Forms.{name_made, given_made, parameter_made}
 use Rattle.source_grammar.proofs.BlockForms.{body_made, give_made, branch_made, split_made, bind_made, ret_made, sync_made, input_made, output_made, spawn_made, run_made, call_found, absent_made, present_made}
 use Rattle.source_grammar.proofs.HeadForms as head
 use Rattle.source_grammar.proofs.Steps.{halt-given, halt-parameter}
-use Rattle.source_grammar.proofs.BlockSteps.{halt-block, halt-bind, halt-give, halt-branch, halt-split, halt-returned, halt-spawn, halt-sync, halt-call, halt-run, halt-output, halt-call_priorities, halt-input, end-parens, end-brackets, action-returned, action-spawn, action-sync, action-call, action-run, action-input, action-output, action-none, tail-give, tail-branch, tail-split, tail-none, binds-name, binds-tail, call-open, call-priorities}
+use Rattle.source_grammar.proofs.BlockSteps.{halt-block, halt-bind, halt-give, halt-branch, halt-split, halt-returned, halt-spawn, halt-sync, halt-call, halt-run, halt-output, halt-call_priorities, halt-input, end-parens, end-brackets, action-form, tail-form, binds-name, binds-tail, call-open, call-priorities}
 use Rattle.source_grammar.proofs.HeadSteps.{halt-priority, halt-order, halt-procedure, halt-main, halt-routine, halt-head_variables, halt-head_close, halt-head_given, end-variables, head-open, head-variables, head-close, head-given, program-declaration, program-main}
 use Rattle.source_grammar.proofs.Taken.{BeginsWith, word_taken, sign_taken, name_taken, nothing_left}
 use Rattle.source_grammar.proofs.Sound.{Found, ItemFound, by_choice, separated_found, listed_found, ty_found, expr_found}
@@ -62,30 +62,30 @@ parameter_found xs ts h =
 abbrev IsAct : List Token → List Token → ℕ × RawAct → Type 0
 IsAct ts rest a = IsAction ts rest a.0 a.1
 
-give_found : (xs : List Symbol) (ts : List Token) → halt (Give ∷ xs) ts ≡ None → Found (IsBody ts) xs ts
+give_found : (xs : List Symbol) (ts : List Token) → halt (TailOf tail.Give ∷ xs) ts ≡ None → Found (IsBody ts) xs ts
 give_found xs ts h =
     let p = word_taken w.Ret (Expr ∷ xs) ts (sym (halt-give xs ts) ∙ h) in
     let e = expr_found xs p.rest p.takes in
     record { tree = ret_tail p.at e.tree; rest = e.rest; is = give_made ts p.rest e.rest p.at e.tree p.is e.is; shorter = omega (arith, p.shorter, e.shorter); takes = e.takes }
 
-returned_found : (xs : List Symbol) (ts : List Token) → halt (Returned ∷ xs) ts ≡ None → Found (IsAct ts) xs ts
+returned_found : (xs : List Symbol) (ts : List Token) → halt (ActionOf action.Returned ∷ xs) ts ≡ None → Found (IsAct ts) xs ts
 returned_found xs ts h =
     let p = word_taken w.Ret (Expr ∷ xs) ts (sym (halt-returned xs ts) ∙ h) in
     let e = expr_found xs p.rest p.takes in
     record { tree = (p.at, ret e.tree); rest = e.rest; is = ret_made ts p.rest e.rest p.at e.tree p.is e.is; shorter = omega (arith, p.shorter, e.shorter); takes = e.takes }
 
-output_found : (xs : List Symbol) (ts : List Token) → halt (Output ∷ xs) ts ≡ None → Found (IsAct ts) xs ts
+output_found : (xs : List Symbol) (ts : List Token) → halt (ActionOf action.Output ∷ xs) ts ≡ None → Found (IsAct ts) xs ts
 output_found xs ts h =
     let p = word_taken w.Output (Expr ∷ xs) ts (sym (halt-output xs ts) ∙ h) in
     let e = expr_found xs p.rest p.takes in
     record { tree = (p.at, output e.tree); rest = e.rest; is = output_made ts p.rest e.rest p.at e.tree p.is e.is; shorter = omega (arith, p.shorter, e.shorter); takes = e.takes }
 
-input_found : (xs : List Symbol) (ts : List Token) → halt (Input ∷ xs) ts ≡ None → Found (IsAct ts) xs ts
+input_found : (xs : List Symbol) (ts : List Token) → halt (ActionOf action.Input ∷ xs) ts ≡ None → Found (IsAct ts) xs ts
 input_found xs ts h =
     let p = word_taken w.Input xs ts (sym (halt-input xs ts) ∙ h) in
     record { tree = (p.at, input); rest = p.rest; is = input_made ts p.rest p.at p.is; shorter = p.shorter; takes = p.takes }
 
-sync_found : (xs : List Symbol) (ts : List Token) → halt (Sync ∷ xs) ts ≡ None → Found (IsAct ts) xs ts
+sync_found : (xs : List Symbol) (ts : List Token) → halt (ActionOf action.Sync ∷ xs) ts ≡ None → Found (IsAct ts) xs ts
 sync_found xs ts h =
     let p = word_taken w.Sync (AName ∷ xs) ts (sym (halt-sync xs ts) ∙ h) in
     let n = name_taken xs p.rest p.takes in
@@ -114,7 +114,7 @@ call_open_found xs ts h true e =
     record { tree = []; rest = d.rest; is = absent_made ts d.rest d.at [] d.is refl; shorter = d.shorter; takes = d.takes }
 call_open_found xs ts h false e = priorities_found xs ts (sym (call-priorities xs ts e) ∙ h)
 
-call_it : (xs : List Symbol) (ts : List Token) → halt (Call ∷ xs) ts ≡ None → Found (IsAct ts) xs ts
+call_it : (xs : List Symbol) (ts : List Token) → halt (ActionOf action.Call ∷ xs) ts ≡ None → Found (IsAct ts) xs ts
 call_it xs ts h =
     let p = word_taken w.Call (AName ∷ CallOpen ∷ Listed Expr parens ∷ xs) ts (sym (halt-call xs ts) ∙ h) in
     let n = name_taken (CallOpen ∷ Listed Expr parens ∷ xs) p.rest p.takes in
@@ -146,7 +146,7 @@ module _ (n : ℕ) (below : Sound n) where
       let b = below.rest_found xs p.rest (omega (arith, p.shorter)) p.takes in
       record { tree = block p.at b.tree; rest = b.rest; is = body_made ts p.rest b.rest p.at b.is.0 b.tree p.is b.is.1; shorter = omega (arith, p.shorter, b.shorter); takes = b.takes }
 
-  branch_found : (xs : List Symbol) (ts : List Token) → length ts ≤ n → halt (Branch ∷ xs) ts ≡ None → Found (IsBody ts) xs ts
+  branch_found : (xs : List Symbol) (ts : List Token) → length ts ≤ n → halt (TailOf tail.Branch ∷ xs) ts ≡ None → Found (IsBody ts) xs ts
   branch_found xs ts l h =
       let p = word_taken w.If (Expr ∷ Block ∷ AWord w.Else ∷ Block ∷ xs) ts (sym (halt-branch xs ts) ∙ h) in
       let e = expr_found (Block ∷ AWord w.Else ∷ Block ∷ xs) p.rest p.takes in
@@ -161,7 +161,7 @@ module _ (n : ℕ) (below : Sound n) where
         takes = y.takes;
       }
 
-  split_found : (xs : List Symbol) (ts : List Token) → length ts ≤ n → halt (Split ∷ xs) ts ≡ None → Found (IsBody ts) xs ts
+  split_found : (xs : List Symbol) (ts : List Token) → length ts ≤ n → halt (TailOf tail.Split ∷ xs) ts ≡ None → Found (IsBody ts) xs ts
   split_found xs ts l h =
       let p = word_taken w.Case (Expr ∷ AWord w.Inl ∷ AName ∷ Block ∷ AWord w.Inr ∷ AName ∷ Block ∷ xs) ts (sym (halt-split xs ts) ∙ h) in
       let e = expr_found (AWord w.Inl ∷ AName ∷ Block ∷ AWord w.Inr ∷ AName ∷ Block ∷ xs) p.rest p.takes in
@@ -179,14 +179,14 @@ module _ (n : ℕ) (below : Sound n) where
         takes = y.takes;
       }
 
-  tail_step : (xs : List Symbol) (ts : List Token) → length ts ≤ n → halt (Tail ∷ xs) ts ≡ None → (f : TailForm) → form_at tail_form ts ≡ Some f → Found (IsBody ts) xs ts
-  tail_step xs ts l h tail.Give e = give_found xs ts (sym (tail-give xs ts e) ∙ h)
-  tail_step xs ts l h tail.Branch e = branch_found xs ts l (sym (tail-branch xs ts e) ∙ h)
-  tail_step xs ts l h tail.Split e = split_found xs ts l (sym (tail-split xs ts e) ∙ h)
+  tail_step : (xs : List Symbol) (ts : List Token) → length ts ≤ n → (f : TailForm) → halt (TailOf f ∷ xs) ts ≡ None → Found (IsBody ts) xs ts
+  tail_step xs ts l tail.Give h = give_found xs ts h
+  tail_step xs ts l tail.Branch h = branch_found xs ts l h
+  tail_step xs ts l tail.Split h = split_found xs ts l h
 
   end_found : (xs : List Symbol) (ts : List Token) → length ts ≤ n → halt (Tail ∷ ASign s.CloseBrace ∷ xs) ts ≡ None → Found (IsRest ts) xs ts
   end_found xs ts l h =
-      let e = by_choice IsBody Tail tail_form (ASign s.CloseBrace ∷ xs) ts (tail-none (ASign s.CloseBrace ∷ xs) ts) (tail_step (ASign s.CloseBrace ∷ xs) ts l h) h in
+      let e = by_choice IsBody TailOf (form_at tail_form ts) (ASign s.CloseBrace ∷ xs) ts (tail_step (ASign s.CloseBrace ∷ xs) ts l) (sym (tail-form (ASign s.CloseBrace ∷ xs) ts) ∙ h) in
       let q = sign_taken s.CloseBrace xs e.rest e.takes in
       record { tree = e.tree; rest = q.rest; is = (q.at, rw q.is at e.is); shorter = omega (arith, e.shorter, q.shorter); takes = q.takes }
 
@@ -209,7 +209,7 @@ module _ (n : ℕ) (below : Sound n) where
   rest_step xs ts l h false e = end_found xs ts l (sym (binds-tail xs ts e) ∙ h)
   rest_step xs ts l h true e = more_found xs ts l (sym (binds-name xs ts e) ∙ h)
 
-  spawn_found : (xs : List Symbol) (ts : List Token) → length ts ≤ n → halt (Spawn ∷ xs) ts ≡ None → Found (IsAct ts) xs ts
+  spawn_found : (xs : List Symbol) (ts : List Token) → length ts ≤ n → halt (ActionOf action.Spawn ∷ xs) ts ≡ None → Found (IsAct ts) xs ts
   spawn_found xs ts l h =
       let p = word_taken w.Spawn (ASign s.OpenBracket ∷ AName ∷ ASign s.CloseBracket ∷ Block ∷ xs) ts (sym (halt-spawn xs ts) ∙ h) in
       let a = sign_taken s.OpenBracket (AName ∷ ASign s.CloseBracket ∷ Block ∷ xs) p.rest p.takes in
@@ -224,20 +224,20 @@ module _ (n : ℕ) (below : Sound n) where
         takes = b.takes;
       }
 
-  run_found : (xs : List Symbol) (ts : List Token) → length ts ≤ n → halt (Run ∷ xs) ts ≡ None → Found (IsAct ts) xs ts
+  run_found : (xs : List Symbol) (ts : List Token) → length ts ≤ n → halt (ActionOf action.Run ∷ xs) ts ≡ None → Found (IsAct ts) xs ts
   run_found xs ts l h =
       let p = word_taken w.Do (Block ∷ xs) ts (sym (halt-run xs ts) ∙ h) in
       let b = below.block_found xs p.rest (omega (arith, p.shorter)) p.takes in
       record { tree = (p.at, do_block b.tree); rest = b.rest; is = run_made ts p.rest b.rest p.at b.tree b.tree p.is b.is (refl {a = b.tree}); shorter = omega (arith, p.shorter, b.shorter); takes = b.takes }
 
-  action_step : (xs : List Symbol) (ts : List Token) → length ts ≤ n → halt (Action ∷ xs) ts ≡ None → (f : ActionForm) → form_at action_form ts ≡ Some f → Found (IsAct ts) xs ts
-  action_step xs ts l h action.Returned e = returned_found xs ts (sym (action-returned xs ts e) ∙ h)
-  action_step xs ts l h action.Spawn e = spawn_found xs ts l (sym (action-spawn xs ts e) ∙ h)
-  action_step xs ts l h action.Sync e = sync_found xs ts (sym (action-sync xs ts e) ∙ h)
-  action_step xs ts l h action.Call e = call_it xs ts (sym (action-call xs ts e) ∙ h)
-  action_step xs ts l h action.Run e = run_found xs ts l (sym (action-run xs ts e) ∙ h)
-  action_step xs ts l h action.Input e = input_found xs ts (sym (action-input xs ts e) ∙ h)
-  action_step xs ts l h action.Output e = output_found xs ts (sym (action-output xs ts e) ∙ h)
+  action_step : (xs : List Symbol) (ts : List Token) → length ts ≤ n → (f : ActionForm) → halt (ActionOf f ∷ xs) ts ≡ None → Found (IsAct ts) xs ts
+  action_step xs ts l action.Returned h = returned_found xs ts h
+  action_step xs ts l action.Spawn h = spawn_found xs ts l h
+  action_step xs ts l action.Sync h = sync_found xs ts h
+  action_step xs ts l action.Call h = call_it xs ts h
+  action_step xs ts l action.Run h = run_found xs ts l h
+  action_step xs ts l action.Input h = input_found xs ts h
+  action_step xs ts l action.Output h = output_found xs ts h
 
 sound : (n : ℕ) → Sound n
 sound zero = record {
@@ -248,7 +248,7 @@ sound zero = record {
 sound (suc n) = record {
   block_found = λ xs ts l h. block_step n (sound n) xs ts (omega arith) h;
   rest_found = λ xs ts l h. rest_step n (sound n) xs ts (omega arith) h (is_at is_name ts) refl;
-  action_found = λ xs ts l h. by_choice IsAct Action action_form xs ts (action-none xs ts) (action_step n (sound n) xs ts (omega arith) h) h;
+  action_found = λ xs ts l h. by_choice IsAct ActionOf (form_at action_form ts) xs ts (action_step n (sound n) xs ts (omega arith)) (sym (action-form xs ts) ∙ h);
 }
 
 -- Routines and procedures.

@@ -4,19 +4,17 @@ use Rattle.source_tokens.specs.declared.token.Token.{Token}
 use Rattle.source_tokens.specs.declared.token.Kind.{Kind}
 use Rattle.source_tokens.specs.declared.token.Word.TheVariants as w
 use Rattle.source_tokens.specs.declared.token.Sign.TheVariants as s
-use Rattle.source_grammar.specs.declared.choice.TyForm.{TyForm}
 use Rattle.source_grammar.specs.declared.choice.TyForm.TheVariants as ty
 use Rattle.source_grammar.specs.declared.choice.Mid.{Mid}
 use Rattle.source_grammar.specs.declared.choice.Prefix.{Prefix}
 use Rattle.source_grammar.specs.declared.choice.Side.{Side}
-use Rattle.source_grammar.specs.declared.choice.ExprForm.{ExprForm}
 use Rattle.source_grammar.specs.declared.choice.ExprForm.TheVariants as expr
 use Rattle.source_grammar.specs.declared.choice.Joint.{Joint}
 use Rattle.source_grammar.specs.declared.cursor.Stop.{Stop}
 use Rattle.source_grammar.specs.declared.cursor.Stop.TheVariants as stop
 use Rattle.source_grammar.specs.Stops.{Moves, MovesTo}
 use Rattle.source_grammar.specs.Next.{is_at, form_at, is_sign, ty_form, mid_form, expr_form, joint_form, prefix_word, side_word}
-use Rattle.source_grammar.specs.Machine.{Symbol, rule, halt, go_on, and_then, by_form, rule_ty_form, rule_expr_form, rule_bracketed, rule_joined, AName, AWord, ASign, Ty, SimpleTy, ThreadTy, PairedTy, TyMid, Expr, Leaf, Opened, Inside, Bracketed, Behind, Joined, AJoint, Applied, Injected, Given, Parameter}
+use Rattle.source_grammar.specs.Machine.{Symbol, rule, halt, go_on, and_then, by_form, rule_bracketed, rule_joined, AName, AWord, ASign, Ty, TyOf, TyMid, Expr, ExprOf, Inside, Bracketed, Behind, Joined, AJoint, Given, Parameter}
 
 pub halt-some : (x : Symbol) (xs ys : List Symbol) (t : Token) (ts : List Token) → rule x t.kind ≡ Some ys → halt (x ∷ xs) (t ∷ ts) ≡ halt (ys ++ xs) ts
 unfolding halt
@@ -57,13 +55,13 @@ same x y xs [] h = halt-end x y xs xs
 same x y xs (t ∷ ts) h = same_here x y xs t ts (h t.kind)
 
 -- Straight lines.
-pub halt-thread_ty : (xs : List Symbol) (ts : List Token) → halt (ThreadTy ∷ xs) ts ≡ halt (AWord w.Thread ∷ ASign s.OpenBracket ∷ AName ∷ ASign s.CloseBracket ∷ ASign s.OpenParen ∷ Ty ∷ ASign s.CloseParen ∷ xs) ts
+pub halt-thread_ty : (xs : List Symbol) (ts : List Token) → halt (TyOf ty.Thread ∷ xs) ts ≡ halt (AWord w.Thread ∷ ASign s.OpenBracket ∷ AName ∷ ASign s.CloseBracket ∷ ASign s.OpenParen ∷ Ty ∷ ASign s.CloseParen ∷ xs) ts
 halt-thread_ty xs ts = begins _ _ (ASign s.OpenBracket ∷ AName ∷ ASign s.CloseBracket ∷ ASign s.OpenParen ∷ Ty ∷ ASign s.CloseParen ∷ []) xs ts (λ kind. refl)
 
-pub halt-paired_ty : (xs : List Symbol) (ts : List Token) → halt (PairedTy ∷ xs) ts ≡ halt (ASign s.OpenParen ∷ Ty ∷ TyMid ∷ Ty ∷ ASign s.CloseParen ∷ xs) ts
+pub halt-paired_ty : (xs : List Symbol) (ts : List Token) → halt (TyOf ty.Paired ∷ xs) ts ≡ halt (ASign s.OpenParen ∷ Ty ∷ TyMid ∷ Ty ∷ ASign s.CloseParen ∷ xs) ts
 halt-paired_ty xs ts = begins _ _ (Ty ∷ TyMid ∷ Ty ∷ ASign s.CloseParen ∷ []) xs ts (λ kind. refl)
 
-pub halt-opened : (xs : List Symbol) (ts : List Token) → halt (Opened ∷ xs) ts ≡ halt (ASign s.OpenParen ∷ Inside ∷ xs) ts
+pub halt-opened : (xs : List Symbol) (ts : List Token) → halt (ExprOf expr.Opened ∷ xs) ts ≡ halt (ASign s.OpenParen ∷ Inside ∷ xs) ts
 halt-opened xs ts = begins _ _ (Inside ∷ []) xs ts (λ kind. refl)
 
 pub halt-bracketed : (xs : List Symbol) (ts : List Token) → halt (Bracketed ∷ xs) ts ≡ halt (Expr ∷ Behind ∷ xs) ts
@@ -72,10 +70,10 @@ halt-bracketed xs ts = begins _ _ (Behind ∷ []) xs ts (λ kind. refl)
 pub halt-joined : (xs : List Symbol) (ts : List Token) → halt (Joined ∷ xs) ts ≡ halt (AJoint ∷ Expr ∷ ASign s.CloseParen ∷ xs) ts
 halt-joined xs ts = begins _ _ (Expr ∷ ASign s.CloseParen ∷ []) xs ts (λ kind. refl)
 
-pub halt-applied : (p : Prefix) (xs : List Symbol) (ts : List Token) → halt (Applied p ∷ xs) ts ≡ halt (AWord (prefix_word p) ∷ ASign s.OpenParen ∷ Expr ∷ ASign s.CloseParen ∷ xs) ts
+pub halt-applied : (p : Prefix) (xs : List Symbol) (ts : List Token) → halt (ExprOf (expr.Applied p) ∷ xs) ts ≡ halt (AWord (prefix_word p) ∷ ASign s.OpenParen ∷ Expr ∷ ASign s.CloseParen ∷ xs) ts
 halt-applied p xs ts = begins _ _ (ASign s.OpenParen ∷ Expr ∷ ASign s.CloseParen ∷ []) xs ts (λ kind. refl)
 
-pub halt-injected : (d : Side) (xs : List Symbol) (ts : List Token) → halt (Injected d ∷ xs) ts ≡ halt (AWord (side_word d) ∷ ASign s.OpenBracket ∷ Ty ∷ ASign s.CloseBracket ∷ ASign s.OpenParen ∷ Expr ∷ ASign s.CloseParen ∷ xs) ts
+pub halt-injected : (d : Side) (xs : List Symbol) (ts : List Token) → halt (ExprOf (expr.Injected d) ∷ xs) ts ≡ halt (AWord (side_word d) ∷ ASign s.OpenBracket ∷ Ty ∷ ASign s.CloseBracket ∷ ASign s.OpenParen ∷ Expr ∷ ASign s.CloseParen ∷ xs) ts
 halt-injected d xs ts = begins _ _ (ASign s.OpenBracket ∷ Ty ∷ ASign s.CloseBracket ∷ ASign s.OpenParen ∷ Expr ∷ ASign s.CloseParen ∷ []) xs ts (λ kind. refl)
 
 pub halt-given : (xs : List Symbol) (ts : List Token) → halt (Given ∷ xs) ts ≡ halt (AName ∷ ASign s.AtMost ∷ AName ∷ xs) ts
@@ -84,60 +82,42 @@ halt-given xs ts = begins _ _ (ASign s.AtMost ∷ AName ∷ []) xs ts (λ kind. 
 pub halt-parameter : (xs : List Symbol) (ts : List Token) → halt (Parameter ∷ xs) ts ≡ halt (AName ∷ ASign s.Colon ∷ Ty ∷ xs) ts
 halt-parameter xs ts = begins _ _ (ASign s.Colon ∷ Ty ∷ []) xs ts (λ kind. refl)
 
--- The next token chooses a form.
-pub chosen : {F : Type 0} (x y : Symbol) (form : Kind → Option F) (here : Kind → F → Option (List Symbol)) (f : F) (xs : List Symbol) (ts : List Token)
-    → ((kind : Kind) → rule x kind ≡ by_form (form kind) (here kind) None) → ((kind : Kind) → here kind f ≡ rule y kind) → form_at form ts ≡ Some f → halt (x ∷ xs) ts ≡ halt (y ∷ xs) ts
-chosen x y form here f xs [] is line h = halt-end x y xs xs
-chosen x y form here f xs (t ∷ ts) is line h = same_here x y xs t ts (is t.kind ∙ ap (λ o. by_form o (here t.kind) None) h ∙ line t.kind)
+-- The next token chooses a form; where none comes, the machine stops.
+by_form_on : {F : Type 0} (o : Option F) (g : F → Option (List Symbol)) (xs : List Symbol) (here ts : List Token)
+    → go_on (by_form o g None) xs here (λ ys. halt ys ts) ≡ by_form o (λ f. go_on (g f) xs here (λ ys. halt ys ts)) (Some here)
+by_form_on None g xs here ts = refl
+by_form_on (Some f) g xs here ts = refl
 
--- The next token chooses a type.
-pub ty-simple : (xs : List Symbol) (ts : List Token) → form_at ty_form ts ≡ Some ty.Simple → halt (Ty ∷ xs) ts ≡ halt (SimpleTy ∷ xs) ts
-ty-simple xs ts h = chosen Ty SimpleTy ty_form rule_ty_form ty.Simple xs ts (λ kind. refl) (λ kind. refl) h
-
-pub ty-thread : (xs : List Symbol) (ts : List Token) → form_at ty_form ts ≡ Some ty.Thread → halt (Ty ∷ xs) ts ≡ halt (ThreadTy ∷ xs) ts
-ty-thread xs ts h = chosen Ty ThreadTy ty_form rule_ty_form ty.Thread xs ts (λ kind. refl) (λ kind. refl) h
-
-pub ty-paired : (xs : List Symbol) (ts : List Token) → form_at ty_form ts ≡ Some ty.Paired → halt (Ty ∷ xs) ts ≡ halt (PairedTy ∷ xs) ts
-ty-paired xs ts h = chosen Ty PairedTy ty_form rule_ty_form ty.Paired xs ts (λ kind. refl) (λ kind. refl) h
-
--- Where no form comes, the machine stops.
-pub nothing_chosen : {F : Type 0} (x : Symbol) (form : Kind → Option F) (here : Kind → F → Option (List Symbol)) (xs : List Symbol) (ts : List Token)
-    → ((kind : Kind) → rule x kind ≡ by_form (form kind) (here kind) None) → form_at form ts ≡ None → halt (x ∷ xs) ts ≡ Some ts
+pub chosen : {F : Type 0} (x : Symbol) (y : F → Symbol) (form : Kind → Option F) (xs : List Symbol) (ts : List Token) → ((kind : Kind) → rule x kind ≡ by_form (form kind) (λ f. rule (y f) kind) None)
+    → halt (x ∷ xs) ts ≡ by_form (form_at form ts) (λ f. halt (y f ∷ xs) ts) (Some ts)
 unfolding halt
-nothing_chosen x form here xs [] same h = refl
-nothing_chosen x form here xs (t ∷ ts) same h = halt-none x xs t ts (same t.kind ∙ ap (λ o. by_form o (here t.kind) None) h)
+chosen x y form xs [] is = refl
+chosen x y form xs (t ∷ ts) is = ap (λ o. go_on o xs (t ∷ ts) (λ ys. halt ys ts)) (is t.kind) ∙ by_form_on (form t.kind) (λ f. rule (y f) t.kind) xs (t ∷ ts) ts
 
-pub ty-none : (xs : List Symbol) (ts : List Token) → form_at ty_form ts ≡ None → halt (Ty ∷ xs) ts ≡ Some ts
-ty-none xs ts h = nothing_chosen Ty ty_form rule_ty_form xs ts (λ kind. refl) h
+pub ty-form : (xs : List Symbol) (ts : List Token) → halt (Ty ∷ xs) ts ≡ by_form (form_at ty_form ts) (λ f. halt (TyOf f ∷ xs) ts) (Some ts)
+ty-form xs ts = chosen Ty TyOf ty_form xs ts (λ kind. refl)
 
--- The next token chooses an expression.
-pub expr-leaf : (xs : List Symbol) (ts : List Token) → form_at expr_form ts ≡ Some expr.Leaf → halt (Expr ∷ xs) ts ≡ halt (Leaf ∷ xs) ts
-expr-leaf xs ts h = chosen Expr Leaf expr_form rule_expr_form expr.Leaf xs ts (λ kind. refl) (λ kind. refl) h
-
-pub expr-opened : (xs : List Symbol) (ts : List Token) → form_at expr_form ts ≡ Some expr.Opened → halt (Expr ∷ xs) ts ≡ halt (Opened ∷ xs) ts
-expr-opened xs ts h = chosen Expr Opened expr_form rule_expr_form expr.Opened xs ts (λ kind. refl) (λ kind. refl) h
-
-pub expr-applied : (xs : List Symbol) (ts : List Token) (p : Prefix) → form_at expr_form ts ≡ Some (expr.Applied p) → halt (Applied p ∷ xs) ts ≡ halt (Expr ∷ xs) ts
-expr-applied xs ts p h = sym (chosen Expr (Applied p) expr_form rule_expr_form (expr.Applied p) xs ts (λ kind. refl) (λ kind. refl) h)
-
-pub expr-injected : (xs : List Symbol) (ts : List Token) (d : Side) → form_at expr_form ts ≡ Some (expr.Injected d) → halt (Injected d ∷ xs) ts ≡ halt (Expr ∷ xs) ts
-expr-injected xs ts d h = sym (chosen Expr (Injected d) expr_form rule_expr_form (expr.Injected d) xs ts (λ kind. refl) (λ kind. refl) h)
-
-pub expr-none : (xs : List Symbol) (ts : List Token) → form_at expr_form ts ≡ None → halt (Expr ∷ xs) ts ≡ Some ts
-expr-none xs ts h = nothing_chosen Expr expr_form rule_expr_form xs ts (λ kind. refl) h
+pub expr-form : (xs : List Symbol) (ts : List Token) → halt (Expr ∷ xs) ts ≡ by_form (form_at expr_form ts) (λ f. halt (ExprOf f ∷ xs) ts) (Some ts)
+expr-form xs ts = chosen Expr ExprOf expr_form xs ts (λ kind. refl)
 
 -- One token joins two types, and one joins two expressions.
+not_joined : {F : Type 0} (x : Symbol) (form : Kind → Option F) (xs : List Symbol) (ts : List Token) → ((kind : Kind) → rule x kind ≡ by_form (form kind) (λ f. Some []) None)
+    → form_at form ts ≡ None → halt (x ∷ xs) ts ≡ Some ts
+unfolding halt
+not_joined x form xs [] is h = refl
+not_joined x form xs (t ∷ ts) is h = halt-none x xs t ts (is t.kind ∙ ap (λ o. by_form o (λ f. Some []) None) h)
+
 pub mid-some : (xs : List Symbol) (ts : List Token) (t : Token) (m : Mid) → mid_form t.kind ≡ Some m → halt (TyMid ∷ xs) (t ∷ ts) ≡ halt xs ts
 mid-some xs ts t m h = halt-some TyMid xs [] t ts (ap (λ o. by_form o (λ f. Some []) None) h)
 
 pub mid-none : (xs : List Symbol) (ts : List Token) → form_at mid_form ts ≡ None → halt (TyMid ∷ xs) ts ≡ Some ts
-mid-none xs ts h = nothing_chosen TyMid mid_form (λ kind f. Some []) xs ts (λ kind. refl) h
+mid-none xs ts h = not_joined TyMid mid_form xs ts (λ kind. refl) h
 
 pub joint-some : (xs : List Symbol) (ts : List Token) (t : Token) (j : Joint) → joint_form t.kind ≡ Some j → halt (AJoint ∷ xs) (t ∷ ts) ≡ halt xs ts
 joint-some xs ts t j h = halt-some AJoint xs [] t ts (ap (λ o. by_form o (λ f. Some []) None) h)
 
 pub joint-none : (xs : List Symbol) (ts : List Token) → form_at joint_form ts ≡ None → halt (AJoint ∷ xs) ts ≡ Some ts
-joint-none xs ts h = nothing_chosen AJoint joint_form (λ kind f. Some []) xs ts (λ kind. refl) h
+joint-none xs ts h = not_joined AJoint joint_form xs ts (λ kind. refl) h
 
 -- A test of the next token chooses between two symbols.
 pub tested : (x y : Symbol) (test : Kind → Bool) (b : Bool) (xs : List Symbol) (ts : List Token) → ((kind : Kind) → test kind ≡ b → rule x kind ≡ rule y kind)
@@ -160,12 +140,6 @@ pub behind-more : (xs : List Symbol) (ts : List Token) → is_at (is_sign s.Clos
 behind-more xs ts h = tested Behind Joined (is_sign s.CloseParen) false xs ts (λ kind e. ap (λ b. cond b (Some []) (rule_joined kind)) e) h
 
 -- What a symbol does, another does that is the same here.
-pub moves_along : (A : Type 0) (x y : Symbol) (old new : List Token) (r : Result A Stop) → ((xs : List Symbol) → halt (x ∷ xs) old ≡ halt (y ∷ xs) old)
-    → Moves {A = A} y old new r → Moves {A = A} x old new r
-moves_along A x y old new (Ok a) f g = λ xs. f xs ∙ g xs
-moves_along A x y old new (Err stop.Syntax) f g = λ xs. f xs ∙ g xs
-moves_along A x y old new (Err stop.Memory) f g = tt
-
 pub moves_to_along : (A : Type 0) (x y : Symbol) (zs : List Symbol) (old new : List Token) (r : Result A Stop)
     → ((xs : List Symbol) → halt (x ∷ xs) old ≡ halt (y ∷ xs) old) → MovesTo {A = A} y zs old new r → MovesTo {A = A} x zs old new r
 moves_to_along A x y zs old new (Ok a) f g = λ xs. f xs ∙ g xs
@@ -184,4 +158,4 @@ part_refuses A B x y ys zs start now new stop.Memory f g = tt
 
 pub ruleset steps = (halt-thread_ty, halt-paired_ty, halt-opened, halt-bracketed, halt-joined, halt-applied, halt-injected, halt-given, halt-parameter)
 
-pub ruleset choices = (ty-simple, ty-thread, ty-paired, ty-none, expr-leaf, expr-opened, expr-applied, expr-injected, expr-none, mid-some, mid-none, joint-some, joint-none, inside-close, inside-more, behind-close, behind-more)
+pub ruleset choices = (ty-form, expr-form, mid-some, mid-none, joint-some, joint-none, inside-close, inside-more, behind-close, behind-more)

@@ -12,7 +12,11 @@ use Rattle.source_grammar.specs.Grammar.{token, sign, word}
 use Rattle.source_grammar.specs.declared.choice.Prefix.TheVariants as prefix
 use Rattle.source_grammar.specs.declared.choice.Side.TheVariants as side
 use Rattle.source_grammar.specs.Next.{is_word, is_sign, prefix_word, side_word}
-use Rattle.source_grammar.specs.Machine.{Symbol, End, parens, brackets, variables, rule, halt, go_on, AName, AWord, ASign, AtEnd, BehindComma, More, Separated, Listed, Ty, SimpleTy, ThreadTy, PairedTy, TyMid, Expr, Leaf, Opened, Inside, Bracketed, Behind, Joined, AJoint, Applied, Injected, Block, Binds, Bind, Tail, Give, Branch, Split, Action, Returned, Spawn, Sync, Call, Run, Input, Output, CallOpen, CallPriorities, Program, Priority, Order, Procedure, Main, Routine, HeadOpen, HeadVariables, HeadEnd, HeadClose, HeadGiven, Given}
+use Rattle.source_grammar.specs.declared.choice.TyForm.TheVariants as ty
+use Rattle.source_grammar.specs.declared.choice.ExprForm.TheVariants as expr
+use Rattle.source_grammar.specs.declared.choice.TailForm.TheVariants as tail
+use Rattle.source_grammar.specs.declared.choice.ActionForm.TheVariants as action
+use Rattle.source_grammar.specs.Machine.{Symbol, End, parens, brackets, variables, rule, halt, go_on, AName, AWord, ASign, AtEnd, BehindComma, More, Separated, Listed, Ty, TyOf, TyMid, Expr, ExprOf, Inside, Bracketed, Behind, Joined, AJoint, Block, Binds, Bind, Tail, TailOf, Action, ActionOf, CallOpen, CallPriorities, Program, Priority, Order, Procedure, Main, Routine, HeadOpen, HeadVariables, HeadEnd, HeadClose, HeadGiven, Given}
 use Rattle.source_grammar.specs.Machine as m
 use Rattle.source_grammar.proofs.CommaLists.{halt-separated}
 use Rattle.source_grammar.proofs.Steps.{halt-some}
@@ -61,16 +65,16 @@ completion (BehindComma x) = sign 0 s.Comma ∷ completion x
 completion (More x e) = completion_end e
 completion (Separated x e) = completion x ++ completion_end e
 completion (Listed x e) = completion_end e
-completion (Applied p) = word 0 (prefix_word p) ∷ sign 0 s.OpenParen ∷ a_name ∷ sign 0 s.CloseParen ∷ []
-completion (Injected d) = word 0 (side_word d) ∷ sign 0 s.OpenBracket ∷ word 0 w.Int ∷ sign 0 s.CloseBracket ∷ sign 0 s.OpenParen ∷ a_name ∷ sign 0 s.CloseParen ∷ []
+completion (ExprOf (expr.Applied p)) = word 0 (prefix_word p) ∷ sign 0 s.OpenParen ∷ a_name ∷ sign 0 s.CloseParen ∷ []
+completion (ExprOf (expr.Injected d)) = word 0 (side_word d) ∷ sign 0 s.OpenBracket ∷ word 0 w.Int ∷ sign 0 s.CloseBracket ∷ sign 0 s.OpenParen ∷ a_name ∷ sign 0 s.CloseParen ∷ []
 completion Ty = word 0 w.Int ∷ []
-completion SimpleTy = word 0 w.Int ∷ []
-completion ThreadTy = word 0 w.Thread ∷ sign 0 s.OpenBracket ∷ a_name ∷ sign 0 s.CloseBracket ∷ sign 0 s.OpenParen ∷ word 0 w.Int ∷ sign 0 s.CloseParen ∷ []
-completion PairedTy = sign 0 s.OpenParen ∷ word 0 w.Int ∷ sign 0 s.Star ∷ word 0 w.Int ∷ sign 0 s.CloseParen ∷ []
+completion (TyOf ty.Simple) = word 0 w.Int ∷ []
+completion (TyOf ty.Thread) = word 0 w.Thread ∷ sign 0 s.OpenBracket ∷ a_name ∷ sign 0 s.CloseBracket ∷ sign 0 s.OpenParen ∷ word 0 w.Int ∷ sign 0 s.CloseParen ∷ []
+completion (TyOf ty.Paired) = sign 0 s.OpenParen ∷ word 0 w.Int ∷ sign 0 s.Star ∷ word 0 w.Int ∷ sign 0 s.CloseParen ∷ []
 completion TyMid = sign 0 s.Star ∷ []
 completion Expr = a_name ∷ []
-completion Leaf = a_name ∷ []
-completion Opened = sign 0 s.OpenParen ∷ sign 0 s.CloseParen ∷ []
+completion (ExprOf expr.Leaf) = a_name ∷ []
+completion (ExprOf expr.Opened) = sign 0 s.OpenParen ∷ sign 0 s.CloseParen ∷ []
 completion Inside = sign 0 s.CloseParen ∷ []
 completion Bracketed = a_name ∷ sign 0 s.CloseParen ∷ []
 completion Behind = sign 0 s.CloseParen ∷ []
@@ -80,17 +84,17 @@ completion Block = sign 0 s.OpenBrace ∷ word 0 w.Ret ∷ a_name ∷ sign 0 s.C
 completion Binds = word 0 w.Ret ∷ a_name ∷ sign 0 s.CloseBrace ∷ []
 completion Bind = a_name ∷ sign 0 s.Arrow ∷ word 0 w.Ret ∷ a_name ∷ sign 0 s.Semicolon ∷ []
 completion Tail = word 0 w.Ret ∷ a_name ∷ []
-completion Give = word 0 w.Ret ∷ a_name ∷ []
-completion Branch = word 0 w.If ∷ a_name ∷ sign 0 s.OpenBrace ∷ word 0 w.Ret ∷ a_name ∷ sign 0 s.CloseBrace ∷ word 0 w.Else ∷ sign 0 s.OpenBrace ∷ word 0 w.Ret ∷ a_name ∷ sign 0 s.CloseBrace ∷ []
-completion Split = word 0 w.Case ∷ a_name ∷ word 0 w.Inl ∷ a_name ∷ sign 0 s.OpenBrace ∷ word 0 w.Ret ∷ a_name ∷ sign 0 s.CloseBrace ∷ word 0 w.Inr ∷ a_name ∷ sign 0 s.OpenBrace ∷ word 0 w.Ret ∷ a_name ∷ sign 0 s.CloseBrace ∷ []
+completion (TailOf tail.Give) = word 0 w.Ret ∷ a_name ∷ []
+completion (TailOf tail.Branch) = word 0 w.If ∷ a_name ∷ sign 0 s.OpenBrace ∷ word 0 w.Ret ∷ a_name ∷ sign 0 s.CloseBrace ∷ word 0 w.Else ∷ sign 0 s.OpenBrace ∷ word 0 w.Ret ∷ a_name ∷ sign 0 s.CloseBrace ∷ []
+completion (TailOf tail.Split) = word 0 w.Case ∷ a_name ∷ word 0 w.Inl ∷ a_name ∷ sign 0 s.OpenBrace ∷ word 0 w.Ret ∷ a_name ∷ sign 0 s.CloseBrace ∷ word 0 w.Inr ∷ a_name ∷ sign 0 s.OpenBrace ∷ word 0 w.Ret ∷ a_name ∷ sign 0 s.CloseBrace ∷ []
 completion Action = word 0 w.Ret ∷ a_name ∷ []
-completion Returned = word 0 w.Ret ∷ a_name ∷ []
-completion Spawn = word 0 w.Spawn ∷ sign 0 s.OpenBracket ∷ a_name ∷ sign 0 s.CloseBracket ∷ sign 0 s.OpenBrace ∷ word 0 w.Ret ∷ a_name ∷ sign 0 s.CloseBrace ∷ []
-completion Sync = word 0 w.Sync ∷ a_name ∷ []
-completion Call = word 0 w.Call ∷ a_name ∷ sign 0 s.OpenParen ∷ sign 0 s.CloseParen ∷ []
-completion Run = word 0 w.Do ∷ sign 0 s.OpenBrace ∷ word 0 w.Ret ∷ a_name ∷ sign 0 s.CloseBrace ∷ []
-completion Input = word 0 w.Input ∷ []
-completion Output = word 0 w.Output ∷ a_name ∷ []
+completion (ActionOf action.Returned) = word 0 w.Ret ∷ a_name ∷ []
+completion (ActionOf action.Spawn) = word 0 w.Spawn ∷ sign 0 s.OpenBracket ∷ a_name ∷ sign 0 s.CloseBracket ∷ sign 0 s.OpenBrace ∷ word 0 w.Ret ∷ a_name ∷ sign 0 s.CloseBrace ∷ []
+completion (ActionOf action.Sync) = word 0 w.Sync ∷ a_name ∷ []
+completion (ActionOf action.Call) = word 0 w.Call ∷ a_name ∷ sign 0 s.OpenParen ∷ sign 0 s.CloseParen ∷ []
+completion (ActionOf action.Run) = word 0 w.Do ∷ sign 0 s.OpenBrace ∷ word 0 w.Ret ∷ a_name ∷ sign 0 s.CloseBrace ∷ []
+completion (ActionOf action.Input) = word 0 w.Input ∷ []
+completion (ActionOf action.Output) = word 0 w.Output ∷ a_name ∷ []
 completion CallOpen = sign 0 s.OpenParen ∷ []
 completion CallPriorities = sign 0 s.OpenBracket ∷ sign 0 s.CloseBracket ∷ sign 0 s.OpenParen ∷ []
 completion Program = word 0 w.Main ∷ word 0 w.At ∷ a_name ∷ sign 0 s.Colon ∷ word 0 w.Int ∷ sign 0 s.OpenBrace ∷ word 0 w.Ret ∷ a_name ∷ sign 0 s.CloseBrace ∷ []
@@ -145,11 +149,17 @@ completes (More x e) xs ts = more_completes x e xs ts
 completes (Separated x e) xs ts =
     halt-separated x e xs _ ∙ ap (halt (x ∷ More x e ∷ xs)) (append_assoc (completion x) (completion_end e) ts) ∙ completes x (More x e ∷ xs) (completion_end e ++ ts) ∙ more_completes x e xs ts
 completes (Listed x e) xs ts = listed_completes x e xs ts
-completes (Applied prefix.First) xs ts = refl
-completes (Applied prefix.Second) xs ts = refl
-completes (Applied prefix.Negated) xs ts = refl
-completes (Injected side.Left) xs ts = refl
-completes (Injected side.Right) xs ts = refl
+completes (TyOf ty.Simple) xs ts = refl
+completes (TyOf _) xs ts = refl
+completes (ExprOf (expr.Applied prefix.First)) xs ts = refl
+completes (ExprOf (expr.Applied _)) xs ts = refl
+completes (ExprOf (expr.Injected side.Left)) xs ts = refl
+completes (ExprOf (expr.Injected side.Right)) xs ts = refl
+completes (ExprOf _) xs ts = refl
+completes (TailOf tail.Give) xs ts = refl
+completes (TailOf _) xs ts = refl
+completes (ActionOf action.Returned) xs ts = refl
+completes (ActionOf _) xs ts = refl
 completes _ xs ts = refl
 
 completed : (xs : List Symbol) → halt xs (completions xs) ≡ None

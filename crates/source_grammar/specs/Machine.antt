@@ -9,8 +9,6 @@ use Rattle.source_tokens.specs.declared.token.Sign.{Sign}
 use Rattle.source_tokens.specs.declared.token.Sign.TheVariants as s
 use Rattle.source_grammar.specs.declared.choice.TyForm.{TyForm}
 use Rattle.source_grammar.specs.declared.choice.TyForm.TheVariants as ty
-use Rattle.source_grammar.specs.declared.choice.Prefix.{Prefix}
-use Rattle.source_grammar.specs.declared.choice.Side.{Side}
 use Rattle.source_grammar.specs.declared.choice.ExprForm.{ExprForm}
 use Rattle.source_grammar.specs.declared.choice.ExprForm.TheVariants as expr
 use Rattle.source_grammar.specs.declared.choice.ActionForm.{ActionForm}
@@ -34,12 +32,14 @@ pub data Symbol : Type 0 where
   AtEnd : End → Symbol
   BehindComma : Symbol → Symbol
   More Separated Listed : Symbol → End → Symbol
-  Ty SimpleTy ThreadTy PairedTy TyMid : Symbol
-  Expr Leaf Opened Inside Bracketed Behind Joined AJoint : Symbol
-  Applied : Prefix → Symbol
-  Injected : Side → Symbol
-  Block Binds Bind Tail Give Branch Split : Symbol
-  Action Returned Spawn Sync Call Run Input Output CallOpen CallPriorities : Symbol
+  Ty TyMid : Symbol
+  TyOf : TyForm → Symbol
+  Expr Inside Bracketed Behind Joined AJoint : Symbol
+  ExprOf : ExprForm → Symbol
+  Block Binds Bind Tail : Symbol
+  TailOf : TailForm → Symbol
+  Action CallOpen CallPriorities : Symbol
+  ActionOf : ActionForm → Symbol
   Program Priority Order Procedure Main Routine HeadOpen HeadVariables HeadEnd HeadClose HeadGiven Given Parameter : Symbol
 
 -- other symbols behind what comes first
@@ -53,7 +53,7 @@ or_else (Some us) o = Some us
 or_else None o = o
 
 -- by the form, if there is one
-abbrev pub by_form : {F : Type 0} → Option F → (F → Option (List Symbol)) → Option (List Symbol) → Option (List Symbol)
+abbrev pub by_form : {F A : Type 0} → Option F → (F → A) → A → A
 by_form (Some f) here other = here f
 by_form None here other = other
 
@@ -93,17 +93,11 @@ rule_simple_ty (k.Word w.Bool) = Some []
 rule_simple_ty (k.Word w.Int) = Some []
 rule_simple_ty _ = None
 
-abbrev pub rule_thread_ty : Kind → Option (List Symbol)
-rule_thread_ty kind =
-    and_then (ASign s.OpenBracket ∷ AName ∷ ASign s.CloseBracket ∷ ASign s.OpenParen ∷ Ty ∷ ASign s.CloseParen ∷ []) (rule_word w.Thread kind)
-
-abbrev pub rule_paired_ty : Kind → Option (List Symbol)
-rule_paired_ty kind = and_then (Ty ∷ TyMid ∷ Ty ∷ ASign s.CloseParen ∷ []) (rule_sign s.OpenParen kind)
-
 abbrev pub rule_ty_form : Kind → TyForm → Option (List Symbol)
 rule_ty_form kind ty.Simple = rule_simple_ty kind
-rule_ty_form kind ty.Thread = rule_thread_ty kind
-rule_ty_form kind ty.Paired = rule_paired_ty kind
+rule_ty_form kind ty.Thread =
+    and_then (ASign s.OpenBracket ∷ AName ∷ ASign s.CloseBracket ∷ ASign s.OpenParen ∷ Ty ∷ ASign s.CloseParen ∷ []) (rule_word w.Thread kind)
+rule_ty_form kind ty.Paired = and_then (Ty ∷ TyMid ∷ Ty ∷ ASign s.CloseParen ∷ []) (rule_sign s.OpenParen kind)
 
 -- Expressions.
 abbrev pub rule_leaf : Kind → Option (List Symbol)
@@ -113,21 +107,12 @@ rule_leaf (k.Word w.True) = Some []
 rule_leaf (k.Word w.False) = Some []
 rule_leaf _ = None
 
-abbrev pub rule_opened : Kind → Option (List Symbol)
-rule_opened kind = and_then (Inside ∷ []) (rule_sign s.OpenParen kind)
-
-abbrev pub rule_applied : Prefix → Kind → Option (List Symbol)
-rule_applied p kind = and_then (ASign s.OpenParen ∷ Expr ∷ ASign s.CloseParen ∷ []) (rule_word (prefix_word p) kind)
-
-abbrev pub rule_injected : Side → Kind → Option (List Symbol)
-rule_injected d kind =
-    and_then (ASign s.OpenBracket ∷ Ty ∷ ASign s.CloseBracket ∷ ASign s.OpenParen ∷ Expr ∷ ASign s.CloseParen ∷ []) (rule_word (side_word d) kind)
-
 abbrev pub rule_expr_form : Kind → ExprForm → Option (List Symbol)
 rule_expr_form kind expr.Leaf = rule_leaf kind
-rule_expr_form kind expr.Opened = rule_opened kind
-rule_expr_form kind (expr.Applied p) = rule_applied p kind
-rule_expr_form kind (expr.Injected d) = rule_injected d kind
+rule_expr_form kind expr.Opened = and_then (Inside ∷ []) (rule_sign s.OpenParen kind)
+rule_expr_form kind (expr.Applied p) = and_then (ASign s.OpenParen ∷ Expr ∷ ASign s.CloseParen ∷ []) (rule_word (prefix_word p) kind)
+rule_expr_form kind (expr.Injected d) =
+    and_then (ASign s.OpenBracket ∷ Ty ∷ ASign s.CloseBracket ∷ ASign s.OpenParen ∷ Expr ∷ ASign s.CloseParen ∷ []) (rule_word (side_word d) kind)
 
 abbrev pub rule_expr : Kind → Option (List Symbol)
 rule_expr kind = by_form (expr_form kind) (rule_expr_form kind) None
@@ -159,16 +144,10 @@ rule_bind kind = and_then (ASign s.Arrow ∷ Action ∷ ASign s.Semicolon ∷ []
 abbrev pub rule_give : Kind → Option (List Symbol)
 rule_give kind = and_then (Expr ∷ []) (rule_word w.Ret kind)
 
-abbrev pub rule_branch : Kind → Option (List Symbol)
-rule_branch kind = and_then (Expr ∷ Block ∷ AWord w.Else ∷ Block ∷ []) (rule_word w.If kind)
-
-abbrev pub rule_split : Kind → Option (List Symbol)
-rule_split kind = and_then (Expr ∷ AWord w.Inl ∷ AName ∷ Block ∷ AWord w.Inr ∷ AName ∷ Block ∷ []) (rule_word w.Case kind)
-
 abbrev pub rule_tail_form : Kind → TailForm → Option (List Symbol)
 rule_tail_form kind tail.Give = rule_give kind
-rule_tail_form kind tail.Branch = rule_branch kind
-rule_tail_form kind tail.Split = rule_split kind
+rule_tail_form kind tail.Branch = and_then (Expr ∷ Block ∷ AWord w.Else ∷ Block ∷ []) (rule_word w.If kind)
+rule_tail_form kind tail.Split = and_then (Expr ∷ AWord w.Inl ∷ AName ∷ Block ∷ AWord w.Inr ∷ AName ∷ Block ∷ []) (rule_word w.Case kind)
 
 abbrev pub rule_tail : Kind → Option (List Symbol)
 rule_tail kind = by_form (tail_form kind) (rule_tail_form kind) None
@@ -177,29 +156,14 @@ rule_tail kind = by_form (tail_form kind) (rule_tail_form kind) None
 abbrev pub rule_binds : Kind → Option (List Symbol)
 rule_binds kind = cond (is_name kind) (and_then (Binds ∷ []) (rule_bind kind)) (and_then (ASign s.CloseBrace ∷ []) (rule_tail kind))
 
-abbrev pub rule_spawn : Kind → Option (List Symbol)
-rule_spawn kind = and_then (ASign s.OpenBracket ∷ AName ∷ ASign s.CloseBracket ∷ Block ∷ []) (rule_word w.Spawn kind)
-
-abbrev pub rule_sync : Kind → Option (List Symbol)
-rule_sync kind = and_then (AName ∷ []) (rule_word w.Sync kind)
-
-abbrev pub rule_call : Kind → Option (List Symbol)
-rule_call kind = and_then (AName ∷ CallOpen ∷ Listed Expr parens ∷ []) (rule_word w.Call kind)
-
-abbrev pub rule_run : Kind → Option (List Symbol)
-rule_run kind = and_then (Block ∷ []) (rule_word w.Do kind)
-
-abbrev pub rule_output : Kind → Option (List Symbol)
-rule_output kind = and_then (Expr ∷ []) (rule_word w.Output kind)
-
 abbrev pub rule_action_form : Kind → ActionForm → Option (List Symbol)
 rule_action_form kind action.Returned = rule_give kind
-rule_action_form kind action.Spawn = rule_spawn kind
-rule_action_form kind action.Sync = rule_sync kind
-rule_action_form kind action.Call = rule_call kind
-rule_action_form kind action.Run = rule_run kind
+rule_action_form kind action.Spawn = and_then (ASign s.OpenBracket ∷ AName ∷ ASign s.CloseBracket ∷ Block ∷ []) (rule_word w.Spawn kind)
+rule_action_form kind action.Sync = and_then (AName ∷ []) (rule_word w.Sync kind)
+rule_action_form kind action.Call = and_then (AName ∷ CallOpen ∷ Listed Expr parens ∷ []) (rule_word w.Call kind)
+rule_action_form kind action.Run = and_then (Block ∷ []) (rule_word w.Do kind)
 rule_action_form kind action.Input = rule_word w.Input kind
-rule_action_form kind action.Output = rule_output kind
+rule_action_form kind action.Output = and_then (Expr ∷ []) (rule_word w.Output kind)
 
 -- the priorities of a call, and the bracket of its arguments
 abbrev pub rule_call_priorities : Kind → Option (List Symbol)
@@ -261,35 +225,22 @@ rule (More x e) kind = rule_more x e kind
 rule (Separated x e) kind = and_then (More x e ∷ []) (rule x kind)
 rule (Listed x e) kind = or_else (rule_end e kind) (and_then (More x e ∷ []) (rule x kind))
 rule Ty kind = by_form (ty_form kind) (rule_ty_form kind) None
-rule SimpleTy kind = rule_simple_ty kind
-rule ThreadTy kind = rule_thread_ty kind
-rule PairedTy kind = rule_paired_ty kind
+rule (TyOf f) kind = rule_ty_form kind f
 rule TyMid kind = by_form (mid_form kind) (λ m. Some []) None
 rule Expr kind = rule_expr kind
-rule Leaf kind = rule_leaf kind
-rule Opened kind = rule_opened kind
 rule Inside kind = rule_inside kind
 rule Bracketed kind = rule_bracketed kind
 rule Behind kind = rule_behind kind
 rule Joined kind = rule_joined kind
 rule AJoint kind = rule_joint kind
-rule (Applied p) kind = rule_applied p kind
-rule (Injected d) kind = rule_injected d kind
+rule (ExprOf f) kind = rule_expr_form kind f
 rule Block kind = rule_block kind
 rule Binds kind = rule_binds kind
 rule Bind kind = rule_bind kind
 rule Tail kind = rule_tail kind
-rule Give kind = rule_give kind
-rule Branch kind = rule_branch kind
-rule Split kind = rule_split kind
+rule (TailOf f) kind = rule_tail_form kind f
 rule Action kind = by_form (action_form kind) (rule_action_form kind) None
-rule Returned kind = rule_give kind
-rule Spawn kind = rule_spawn kind
-rule Sync kind = rule_sync kind
-rule Call kind = rule_call kind
-rule Run kind = rule_run kind
-rule Input kind = rule_word w.Input kind
-rule Output kind = rule_output kind
+rule (ActionOf f) kind = rule_action_form kind f
 rule CallOpen kind = rule_call_open kind
 rule CallPriorities kind = rule_call_priorities kind
 rule Program kind = rule_program kind

@@ -24,9 +24,9 @@ abbrev pub read_ty : RawTy → RawType
 read_ty ty.Unit = tree.unit
 read_ty ty.Bool = tree.bool
 read_ty ty.Int = tree.int
+read_ty (ty.Thread' n p a) = tree.thread n (read_ty a)
 read_ty (ty.Pair' p a q b) = tree.pair (read_ty a) (read_ty b)
 read_ty (ty.Sum' p a q b) = tree.sum (read_ty a) (read_ty b)
-read_ty (ty.Thread' n p a) = tree.thread n (read_ty a)
 
 abbrev pub read_written : Written → WrittenType
 read_written w = record { at = w.at; ty = read_ty w.ty }
@@ -48,18 +48,6 @@ abbrev pub read_expr : RawExpr → RawTerm
 read_expr e = read_form e.form e.at
 
 abbrev mutual
-  pub read_block : RawBlock → RawCode
-  read_block (RawBlock' at shape binds i tail) = tree.block at (read_binds binds (read_tail tail i))
-
-  pub read_binds : {n : _} → Row_of-RawBind n → RawBody → RawBody
-  read_binds end_of-RawBind body = body
-  read_binds (more_of-RawBind name at a rest) body = tree.bind name at (read_action a) (read_binds rest body)
-
-  pub read_tail : RawTailForm → ℕ → RawBody
-  read_tail (tail.Ret e) at = tree.ret_tail at (read_expr e)
-  read_tail (tail.If' e p a q b) at = tree.if_tail at (read_expr e) (read_block a) (read_block b)
-  read_tail (tail.Case' e m p a n q b) at = tree.case_tail at (read_expr e) m (read_block a) n (read_block b)
-
   pub read_action : RawAction → RawAct
   read_action (action.Ret e) = tree.ret (read_expr e)
   read_action (action.Spawn' p q b) = tree.spawn p (read_block b)
@@ -68,6 +56,18 @@ abbrev mutual
   read_action (action.Do' p b) = tree.do_block (read_block b)
   read_action action.Input = tree.input
   read_action (action.Output e) = tree.output (read_expr e)
+
+  pub read_tail : RawTailForm → ℕ → RawBody
+  read_tail (tail.Ret e) at = tree.ret_tail at (read_expr e)
+  read_tail (tail.If' e p a q b) at = tree.if_tail at (read_expr e) (read_block a) (read_block b)
+  read_tail (tail.Case' e m p a n q b) at = tree.case_tail at (read_expr e) m (read_block a) n (read_block b)
+
+  pub read_binds : {n : _} → Row_of-RawBind n → RawBody → RawBody
+  read_binds end_of-RawBind body = body
+  read_binds (more_of-RawBind name at a rest) body = tree.bind name at (read_action a) (read_binds rest body)
+
+  pub read_block : RawBlock → RawCode
+  read_block (RawBlock' at shape binds i tail) = tree.block at (read_binds binds (read_tail tail i))
 
 abbrev pub read_param : RawParam → Parameter
 read_param p = record { name = p.name; ty = read_written p.ty }

@@ -17,8 +17,7 @@ pub record WrittenType : Type 0 where
 
 -- an expression
 pub data RawTerm : Type 0 where
-  var : ℕ → ℕ → RawTerm
-  number : ℕ → ℕ → RawTerm
+  var number : ℕ → ℕ → RawTerm
   bool_term : ℕ → Bool → RawTerm
   unit_term : ℕ → RawTerm
   pair_term : ℕ → RawTerm → RawTerm → RawTerm

@@ -1,9 +1,12 @@
 //! Actions and endings that hold no block.
+#![tactic(auto, using(crate::proofs::BlockSteps::steps, crate::proofs::BlockForms::forms))]
 
 ghost use Rattle.std.specs.Prelude.{◌≡◌, ◌∷◌, IfOk, ◌<◌, length};
 ghost use Rattle.source_tokens.specs.declared.token.Sign.TheVariants as a_sign;
+ghost use Rattle.source_grammar.specs.declared.choice.ActionForm.TheVariants as a_action;
+ghost use Rattle.source_grammar.specs.declared.choice.TailForm.TheVariants as a_tail;
 ghost use Rattle.source_grammar.specs.Grammar.{IsAction, IsBody, IsPriorities, sign};
-ghost use Rattle.source_grammar.specs.Machine.{ASign, Call, CallOpen, CallPriorities, Give, Input, Output, Returned, Sync};
+ghost use Rattle.source_grammar.specs.Machine.{ASign, ActionOf, CallOpen, CallPriorities, TailOf};
 ghost use Rattle.source_grammar.specs.RawRead.{read_action, read_tail};
 ghost use Rattle.source_grammar.specs.Stops.{Moves};
 
@@ -15,10 +18,9 @@ use source_tokens::token::{Sign, Word};
 use std::alloc::{AllocError, Global};
 
 /// An ending that gives a value.
-#[tactic(auto, using(crate::proofs::BlockSteps::steps, crate::proofs::BlockForms::forms))]
 pub fn give(alloc: Global, tokens: &mut Tokens) -> Result<RawTail, Stop>
     ensures ok { IfOk result (λ t. IsBody tokens.old tokens.new (read_tail t.form t.at)) }
-    ensures moves { Moves Give tokens.old tokens.new result }
+    ensures moves { Moves (TailOf a_tail.Give) tokens.old tokens.new result }
     ensures shorter { IfOk result (λ _. length tokens.new < length tokens.old) }
 {
     let at = tokens.expect_word(Word::Ret)?;
@@ -30,10 +32,9 @@ pub fn give(alloc: Global, tokens: &mut Tokens) -> Result<RawTail, Stop>
 }
 
 /// The action that gives a value.
-#[tactic(auto, using(crate::proofs::BlockSteps::steps, crate::proofs::BlockForms::forms))]
 pub fn returned(alloc: Global, tokens: &mut Tokens) -> Result<(u64, RawAction), Stop>
     ensures ok { IfOk result (λ a. IsAction tokens.old tokens.new a.0 (read_action a.1)) }
-    ensures moves { Moves Returned tokens.old tokens.new result }
+    ensures moves { Moves (ActionOf a_action.Returned) tokens.old tokens.new result }
     ensures shorter { IfOk result (λ _. length tokens.new < length tokens.old) }
 {
     let at = tokens.expect_word(Word::Ret)?;
@@ -42,10 +43,9 @@ pub fn returned(alloc: Global, tokens: &mut Tokens) -> Result<(u64, RawAction), 
 }
 
 /// The action that waits for a thread.
-#[tactic(auto, using(crate::proofs::BlockSteps::steps, crate::proofs::BlockForms::forms))]
 pub fn sync(tokens: &mut Tokens) -> Result<(u64, RawAction), Stop>
     ensures ok { IfOk result (λ a. IsAction tokens.old tokens.new a.0 (read_action a.1)) }
-    ensures moves { Moves Sync tokens.old tokens.new result }
+    ensures moves { Moves (ActionOf a_action.Sync) tokens.old tokens.new result }
     ensures shorter { IfOk result (λ _. length tokens.new < length tokens.old) }
 {
     let at = tokens.expect_word(Word::Sync)?;
@@ -53,34 +53,30 @@ pub fn sync(tokens: &mut Tokens) -> Result<(u64, RawAction), Stop>
     Ok((at, RawAction::Sync(thread)))
 }
 
+/// The action that writes a number.
+pub fn output(alloc: Global, tokens: &mut Tokens) -> Result<(u64, RawAction), Stop>
+    ensures ok { IfOk result (λ a. IsAction tokens.old tokens.new a.0 (read_action a.1)) }
+    ensures moves { Moves (ActionOf a_action.Output) tokens.old tokens.new result }
+    ensures shorter { IfOk result (λ _. length tokens.new < length tokens.old) }
+{
+    let at = tokens.expect_word(Word::Output)?;
+    Ok((at, RawAction::Output(expr(alloc, tokens)?)))
+}
+
 /// The action that reads a number.
-#[tactic(auto, using(crate::proofs::BlockSteps::steps, crate::proofs::BlockForms::forms))]
 pub fn input(tokens: &mut Tokens) -> Result<(u64, RawAction), Stop>
     ensures ok { IfOk result (λ a. IsAction tokens.old tokens.new a.0 (read_action a.1)) }
-    ensures moves { Moves Input tokens.old tokens.new result }
+    ensures moves { Moves (ActionOf a_action.Input) tokens.old tokens.new result }
     ensures shorter { IfOk result (λ _. length tokens.new < length tokens.old) }
 {
     let at = tokens.expect_word(Word::Input)?;
     Ok((at, RawAction::Input))
 }
 
-/// The action that writes a number.
-#[tactic(auto, using(crate::proofs::BlockSteps::steps, crate::proofs::BlockForms::forms))]
-pub fn output(alloc: Global, tokens: &mut Tokens) -> Result<(u64, RawAction), Stop>
-    ensures ok { IfOk result (λ a. IsAction tokens.old tokens.new a.0 (read_action a.1)) }
-    ensures moves { Moves Output tokens.old tokens.new result }
-    ensures shorter { IfOk result (λ _. length tokens.new < length tokens.old) }
-{
-    let at = tokens.expect_word(Word::Output)?;
-    let value = expr(alloc, tokens)?;
-    Ok((at, RawAction::Output(value)))
-}
-
 /// The action that calls a procedure.
-#[tactic(auto, using(crate::proofs::BlockSteps::steps, crate::proofs::BlockForms::forms))]
 pub fn call(alloc: Global, tokens: &mut Tokens) -> Result<(u64, RawAction), Stop>
     ensures ok { IfOk result (λ a. IsAction tokens.old tokens.new a.0 (read_action a.1)) }
-    ensures moves { Moves Call tokens.old tokens.new result }
+    ensures moves { Moves (ActionOf a_action.Call) tokens.old tokens.new result }
     ensures shorter { IfOk result (λ _. length tokens.new < length tokens.old) }
 {
     let at = tokens.expect_word(Word::Call)?;
@@ -122,7 +118,6 @@ fn call_open(alloc: Global, tokens: &mut Tokens) -> Result<Vec<Name>, Stop>
     }
 }
 
-#[tactic(auto, using(crate::proofs::BlockSteps::steps, crate::proofs::BlockForms::forms))]
 fn no_priorities(alloc: Global, tokens: &mut Tokens) -> Result<Vec<Name>, Stop>
     ensures ok { IfOk result (λ ps. (at : _) × IsPriorities tokens.old (sign at a_sign.OpenParen ∷ tokens.new) ps.items) }
     ensures moves { Moves (ASign a_sign.OpenParen) tokens.old tokens.new result }
@@ -132,7 +127,6 @@ fn no_priorities(alloc: Global, tokens: &mut Tokens) -> Result<Vec<Name>, Stop>
     Ok(Vec::new(alloc))
 }
 
-#[tactic(auto, using(crate::proofs::BlockSteps::steps, crate::proofs::BlockForms::forms))]
 fn priorities(alloc: Global, tokens: &mut Tokens) -> Result<Vec<Name>, Stop>
     ensures ok { IfOk result (λ ps. (at : _) × IsPriorities tokens.old (sign at a_sign.OpenParen ∷ tokens.new) ps.items) }
     ensures moves { Moves CallPriorities tokens.old tokens.new result }

@@ -1,10 +1,13 @@
 //! Blocks.
+#![tactic(auto, using(crate::proofs::BlockSteps::steps, crate::proofs::BlockForms::forms))]
 
 ghost use Rattle.std.specs.Prelude.{◌≡◌, ◌++◌, OnOk, ◌∷◌, [], IfOk, ◌≤◌, ◌<◌, length};
 ghost use Rattle.source_tokens.specs.declared.token.Sign.TheVariants as a_sign;
+ghost use Rattle.source_grammar.specs.declared.choice.ActionForm.TheVariants as a_action;
+ghost use Rattle.source_grammar.specs.declared.choice.TailForm.TheVariants as a_tail;
 ghost use Rattle.source_grammar.specs.Grammar.{IsAction, IsBlock, IsBody};
 ghost use Rattle.source_grammar.specs.Lists.{body_of};
-ghost use Rattle.source_grammar.specs.Machine.{ASign, Action, Bind, Binds, Block, Branch, Run, Spawn, Split, Tail};
+ghost use Rattle.source_grammar.specs.Machine.{ASign, Action, ActionOf, Bind, Binds, Block, Tail, TailOf};
 ghost use Rattle.source_grammar.specs.RawRead.{read_action, read_block, read_tail};
 ghost use Rattle.source_grammar.specs.RawTree.{RawBody};
 ghost use Rattle.source_grammar.specs.Stops.{Moves, MovesTo};
@@ -20,7 +23,6 @@ use std::alloc::{AllocError, Global};
 
 /// A block in braces.
 #[cycle(block)]
-#[tactic(auto, using(crate::proofs::BlockSteps::steps, crate::proofs::BlockForms::forms))]
 pub fn block(alloc: Global, tokens: &mut Tokens) -> Result<RawBlock, Stop>
     ensures ok { IfOk result (λ b. IsBlock tokens.old tokens.new (read_block b)) }
     ensures moves { Moves Block tokens.old tokens.new result }
@@ -35,7 +37,6 @@ pub fn block(alloc: Global, tokens: &mut Tokens) -> Result<RawBlock, Stop>
 
 /// The bound actions of a block, as far as names come.
 #[cycle(block)]
-#[tactic(auto, using(crate::proofs::BlockSteps::steps, crate::proofs::BlockForms::forms))]
 fn binds(alloc: Global, tokens: &mut Tokens) -> Result<Vec<RawBind>, Stop>
     ensures ok { IfOk result
         (λ bs. (rest : _) (body : RawBody) → IsBody tokens.new rest body → IsBody tokens.old rest (body_of bs.items body)) }
@@ -52,7 +53,6 @@ fn binds(alloc: Global, tokens: &mut Tokens) -> Result<Vec<RawBind>, Stop>
 
 /// A bound action, which begins with a name.
 #[cycle(block)]
-#[tactic(auto, using(crate::proofs::BlockSteps::steps, crate::proofs::BlockForms::forms))]
 fn bind(alloc: Global, tokens: &mut Tokens) -> Result<RawBind, Stop>
     ensures ok { IfOk result
         (λ b. (rest : _) (body : RawBody) → IsBody tokens.new rest body → IsBody tokens.old rest (body_of (b ∷ []) body)) }
@@ -87,10 +87,9 @@ fn action(alloc: Global, tokens: &mut Tokens) -> Result<(u64, RawAction), Stop>
 }
 
 #[cycle(block)]
-#[tactic(auto, using(crate::proofs::BlockSteps::steps, crate::proofs::BlockForms::forms))]
 fn spawn(alloc: Global, tokens: &mut Tokens) -> Result<(u64, RawAction), Stop>
     ensures ok { IfOk result (λ a. IsAction tokens.old tokens.new a.0 (read_action a.1)) }
-    ensures moves { Moves Spawn tokens.old tokens.new result }
+    ensures moves { Moves (ActionOf a_action.Spawn) tokens.old tokens.new result }
     ensures shorter { IfOk result (λ _. length tokens.new < length tokens.old) }
 {
     let at = tokens.expect_word(Word::Spawn)?;
@@ -102,10 +101,9 @@ fn spawn(alloc: Global, tokens: &mut Tokens) -> Result<(u64, RawAction), Stop>
 }
 
 #[cycle(block)]
-#[tactic(auto, using(crate::proofs::BlockSteps::steps, crate::proofs::BlockForms::forms))]
 fn run(alloc: Global, tokens: &mut Tokens) -> Result<(u64, RawAction), Stop>
     ensures ok { IfOk result (λ a. IsAction tokens.old tokens.new a.0 (read_action a.1)) }
-    ensures moves { Moves Run tokens.old tokens.new result }
+    ensures moves { Moves (ActionOf a_action.Run) tokens.old tokens.new result }
     ensures shorter { IfOk result (λ _. length tokens.new < length tokens.old) }
 {
     let at = tokens.expect_word(Word::Do)?;
@@ -131,10 +129,9 @@ fn tail(alloc: Global, tokens: &mut Tokens) -> Result<RawTail, Stop>
 
 /// An ending by a condition.
 #[cycle(block)]
-#[tactic(auto, using(crate::proofs::BlockSteps::steps, crate::proofs::BlockForms::forms))]
 fn branch(alloc: Global, tokens: &mut Tokens) -> Result<RawTail, Stop>
     ensures ok { IfOk result (λ t. IsBody tokens.old tokens.new (read_tail t.form t.at)) }
-    ensures moves { Moves Branch tokens.old tokens.new result }
+    ensures moves { Moves (TailOf a_tail.Branch) tokens.old tokens.new result }
     ensures shorter { IfOk result (λ _. length tokens.new < length tokens.old) }
 {
     let at = tokens.expect_word(Word::If)?;
@@ -150,10 +147,9 @@ fn branch(alloc: Global, tokens: &mut Tokens) -> Result<RawTail, Stop>
 
 /// An ending by the two sides of a sum.
 #[cycle(block)]
-#[tactic(auto, using(crate::proofs::BlockSteps::steps, crate::proofs::BlockForms::forms))]
 fn split(alloc: Global, tokens: &mut Tokens) -> Result<RawTail, Stop>
     ensures ok { IfOk result (λ t. IsBody tokens.old tokens.new (read_tail t.form t.at)) }
-    ensures moves { Moves Split tokens.old tokens.new result }
+    ensures moves { Moves (TailOf a_tail.Split) tokens.old tokens.new result }
     ensures shorter { IfOk result (λ _. length tokens.new < length tokens.old) }
 {
     let at = tokens.expect_word(Word::Case)?;
@@ -172,7 +168,6 @@ fn split(alloc: Global, tokens: &mut Tokens) -> Result<RawTail, Stop>
 
 /// A block in braces, on the heap.
 #[cycle(block)]
-#[tactic(auto, using(crate::proofs::BlockSteps::steps, crate::proofs::BlockForms::forms))]
 fn boxed_block(alloc: Global, tokens: &mut Tokens) -> Result<Box<RawBlock>, Stop>
     ensures ok { IfOk result (λ b. IsBlock tokens.old tokens.new (read_block b.value)) }
     ensures moves { Moves Block tokens.old tokens.new result }

@@ -25,9 +25,9 @@ pub enum Stop {
 }
 
 impl From<AllocError> for Stop {
-    ghost use Rattle.source_grammar.specs.declared.cursor.Stop.TheVariants.{Memory};
+    ghost use Rattle.source_grammar.specs.declared.cursor.Stop.TheVariants as stop;
 
-    ghost from_gives = { λ _ e. e ≡ Memory };
+    ghost from_gives = { λ _ e. e ≡ stop.Memory };
 
     fn from(_error: AllocError) -> Stop {
         Stop::Memory

@@ -1,10 +1,12 @@
 //! Expressions.
+#![tactic(auto, using(crate::proofs::Steps::steps, crate::proofs::Forms::forms))]
 
 ghost use Rattle.std.specs.Prelude.{◌≡◌, ◌∷◌, ◌<◌, IfOk, length};
 ghost use Rattle.source_tokens.specs.declared.token.Sign.TheVariants as a_sign;
+ghost use Rattle.source_grammar.specs.declared.choice.ExprForm.TheVariants as a_expr;
 ghost use Rattle.source_grammar.specs.Grammar.{IsExpr, sign};
 ghost use Rattle.source_grammar.specs.Joined.{IsToken, joint_term, prefix_term, side_term};
-ghost use Rattle.source_grammar.specs.Machine.{AJoint, ASign, Applied, Behind, Bracketed, Expr, Injected, Inside, Joined, Leaf, Opened};
+ghost use Rattle.source_grammar.specs.Machine.{AJoint, ASign, Behind, Bracketed, Expr, ExprOf, Inside, Joined};
 ghost use Rattle.source_grammar.specs.Next.{joint_form, prefix_word, side_word};
 ghost use Rattle.source_grammar.specs.RawRead.{read_expr, read_written};
 ghost use Rattle.source_grammar.specs.Stops.{Moves};
@@ -38,7 +40,7 @@ pub fn expr(alloc: Global, tokens: &mut Tokens) -> Result<RawExpr, Stop>
 #[tactic(auto, using(crate::proofs::Forms::forms), unfolding(crate::specs::Machine::halt))]
 fn leaf(tokens: &mut Tokens) -> Result<RawExpr, Stop>
     ensures ok { IfOk result (λ e. IsExpr tokens.old tokens.new (read_expr e)) }
-    ensures moves { Moves Leaf tokens.old tokens.new result }
+    ensures moves { Moves (ExprOf a_expr.Leaf) tokens.old tokens.new result }
     ensures shorter { IfOk result (λ _. length tokens.new < length tokens.old) }
 {
     match tokens.peek() {
@@ -96,10 +98,9 @@ fn leaf(tokens: &mut Tokens) -> Result<RawExpr, Stop>
 
 /// An expression that begins with a bracket.
 #[cycle(expr)]
-#[tactic(auto, using(crate::proofs::Steps::steps, crate::proofs::Forms::forms))]
 fn opened(alloc: Global, tokens: &mut Tokens) -> Result<RawExpr, Stop>
     ensures ok { IfOk result (λ e. IsExpr tokens.old tokens.new (read_expr e)) }
-    ensures moves { Moves Opened tokens.old tokens.new result }
+    ensures moves { Moves (ExprOf a_expr.Opened) tokens.old tokens.new result }
     ensures shorter { IfOk result (λ _. length tokens.new < length tokens.old) }
 {
     let at = tokens.expect_sign(Sign::OpenParen)?;
@@ -135,7 +136,6 @@ fn nothing(at: u64, tokens: &mut Tokens) -> Result<RawExpr, Stop>
 }
 
 #[cycle(expr)]
-#[tactic(auto, using(crate::proofs::Steps::steps, crate::proofs::Forms::forms))]
 fn bracketed(alloc: Global, at: u64, tokens: &mut Tokens) -> Result<RawExpr, Stop>
     ensures ok { IfOk result (λ e. IsExpr (sign at a_sign.OpenParen ∷ tokens.old) tokens.new (read_expr e)) }
     ensures moves { Moves Bracketed tokens.old tokens.new result }
@@ -173,7 +173,6 @@ fn closed(at: u64, first: RawExpr, tokens: &mut Tokens) -> Result<RawExpr, Stop>
 }
 
 #[cycle(expr)]
-#[tactic(auto, using(crate::proofs::Steps::steps, crate::proofs::Forms::forms))]
 fn joined(alloc: Global, at: u64, first: RawExpr, tokens: &mut Tokens) -> Result<RawExpr, Stop>
     ensures ok { IfOk result
         (λ e. (ts : _) → IsExpr ts tokens.old (read_expr first) → IsExpr (sign at a_sign.OpenParen ∷ ts) tokens.new (read_expr e)) }
@@ -204,10 +203,9 @@ fn take_joint(tokens: &mut Tokens) -> Result<Joint, Stop>
 
 /// A word and an expression in brackets.
 #[cycle(expr)]
-#[tactic(auto, using(crate::proofs::Steps::steps, crate::proofs::Forms::forms))]
 fn applied(alloc: Global, prefix: Prefix, tokens: &mut Tokens) -> Result<RawExpr, Stop>
     ensures ok { IfOk result (λ e. IsExpr tokens.old tokens.new (read_expr e)) }
-    ensures moves { Moves (Applied prefix) tokens.old tokens.new result }
+    ensures moves { Moves (ExprOf (a_expr.Applied prefix)) tokens.old tokens.new result }
     ensures shorter { IfOk result (λ _. length tokens.new < length tokens.old) }
 {
     let at = tokens.expect_word(prefix.word())?;
@@ -219,10 +217,9 @@ fn applied(alloc: Global, prefix: Prefix, tokens: &mut Tokens) -> Result<RawExpr
 
 /// A side of a sum: a word, a type in square brackets and an expression in brackets.
 #[cycle(expr)]
-#[tactic(auto, using(crate::proofs::Steps::steps, crate::proofs::Forms::forms))]
 fn injected(alloc: Global, side: Side, tokens: &mut Tokens) -> Result<RawExpr, Stop>
     ensures ok { IfOk result (λ e. IsExpr tokens.old tokens.new (read_expr e)) }
-    ensures moves { Moves (Injected side) tokens.old tokens.new result }
+    ensures moves { Moves (ExprOf (a_expr.Injected side)) tokens.old tokens.new result }
     ensures shorter { IfOk result (λ _. length tokens.new < length tokens.old) }
 {
     let at = tokens.expect_word(side.word())?;

@@ -1,4 +1,5 @@
 //! Procedures.
+#![tactic(auto, using(crate::proofs::HeadSteps::steps, crate::proofs::HeadForms::forms))]
 
 ghost use Rattle.std.specs.Prelude.{◌≡◌, ◌∷◌, IfOk, ◌<◌, length};
 ghost use Rattle.source_tokens.specs.declared.token.Sign.TheVariants as a_sign;
@@ -24,7 +25,6 @@ struct Head {
 }
 
 /// A procedure.
-#[tactic(auto, using(crate::proofs::HeadSteps::steps, crate::proofs::HeadForms::forms))]
 pub fn procedure(alloc: Global, tokens: &mut Tokens) -> Result<RawProc, Stop>
     ensures ok { IfOk result (λ f. IsProcedure tokens.old tokens.new (read_proc f)) }
     ensures moves { Moves Procedure tokens.old tokens.new result }
@@ -49,7 +49,6 @@ pub fn procedure(alloc: Global, tokens: &mut Tokens) -> Result<RawProc, Stop>
 }
 
 /// The own priority, the result type and the body of the routine at this offset.
-#[tactic(auto, using(crate::proofs::HeadSteps::steps, crate::proofs::HeadForms::forms))]
 pub fn routine(alloc: Global, at: u64, tokens: &mut Tokens) -> Result<RawMain, Stop>
     ensures ok { IfOk result (λ m. IsRoutine tokens.old tokens.new at (read_main m)) }
     ensures moves { Moves Routine tokens.old tokens.new result }
@@ -82,7 +81,6 @@ fn head_open(alloc: Global, tokens: &mut Tokens) -> Result<Head, Stop>
     }
 }
 
-#[tactic(auto, using(crate::proofs::HeadSteps::steps, crate::proofs::HeadForms::forms))]
 fn no_head(alloc: Global, tokens: &mut Tokens) -> Result<Head, Stop>
     ensures ok { IfOk result (λ h. (at : _) × IsHead tokens.old (sign at a_sign.OpenParen ∷ tokens.new) h.vars.items h.given.items) }
     ensures moves { Moves (ASign a_sign.OpenParen) tokens.old tokens.new result }
@@ -95,7 +93,6 @@ fn no_head(alloc: Global, tokens: &mut Tokens) -> Result<Head, Stop>
     })
 }
 
-#[tactic(auto, using(crate::proofs::HeadSteps::steps, crate::proofs::HeadForms::forms))]
 fn variables(alloc: Global, tokens: &mut Tokens) -> Result<Head, Stop>
     ensures ok { IfOk result (λ h. (at : _) × IsHead tokens.old (sign at a_sign.OpenParen ∷ tokens.new) h.vars.items h.given.items) }
     ensures moves { Moves HeadVariables tokens.old tokens.new result }
@@ -115,13 +112,11 @@ fn head_end(alloc: Global, tokens: &mut Tokens) -> Result<Vec<(Name, Name)>, Sto
     ensures shorter { IfOk result (λ _. length tokens.new < length tokens.old) }
 {
     if tokens.is_at_sign(Sign::CloseBracket) {
-        no_given(alloc, tokens)
-    } else {
-        given(alloc, tokens)
+        return no_given(alloc, tokens);
     }
+    given(alloc, tokens)
 }
 
-#[tactic(auto, using(crate::proofs::HeadSteps::steps, crate::proofs::HeadForms::forms))]
 fn no_given(alloc: Global, tokens: &mut Tokens) -> Result<Vec<(Name, Name)>, Stop>
     ensures ok { IfOk result (λ gs. EndsHead tokens.old tokens.new gs.items) }
     ensures moves { Moves HeadClose tokens.old tokens.new result }
@@ -132,7 +127,6 @@ fn no_given(alloc: Global, tokens: &mut Tokens) -> Result<Vec<(Name, Name)>, Sto
     Ok(Vec::new(alloc))
 }
 
-#[tactic(auto, using(crate::proofs::HeadSteps::steps, crate::proofs::HeadForms::forms))]
 fn given(alloc: Global, tokens: &mut Tokens) -> Result<Vec<(Name, Name)>, Stop>
     ensures ok { IfOk result (λ gs. EndsHead tokens.old tokens.new gs.items) }
     ensures moves { Moves HeadGiven tokens.old tokens.new result }

@@ -1,4 +1,5 @@
 //! Declarations, the main procedure and the program.
+#![tactic(auto, using(crate::proofs::HeadSteps::steps, crate::proofs::HeadForms::forms))]
 
 ghost use Rattle.std.specs.Prelude.{◌≡◌, ◌∷◌, [], IfOk, IfErr, ◌<◌, length, map};
 ghost use Rattle.source_grammar.specs.Faults.{HasNoTree, TokenIsAt};
@@ -44,7 +45,6 @@ pub fn parse(alloc: Global, runs: &[Vec<Token>]) -> Result<RawProgram, ParseStop
 }
 
 /// A program, and then no token more.
-#[tactic(auto, using(crate::proofs::HeadSteps::steps, crate::proofs::HeadForms::forms))]
 fn program(alloc: Global, tokens: &mut Tokens) -> Result<RawProgram, Stop>
     ensures ok { IfOk result (λ p. IsProgram tokens.old (read_raw p)) }
     ensures moves { MovesAll (Program ∷ []) tokens.old tokens.new result }
@@ -56,7 +56,6 @@ fn program(alloc: Global, tokens: &mut Tokens) -> Result<RawProgram, Stop>
 }
 
 /// The declarations, as far as they come.
-#[tactic(auto, using(crate::proofs::HeadSteps::steps, crate::proofs::HeadForms::forms))]
 fn declarations(alloc: Global, tokens: &mut Tokens) -> Result<Vec<RawDecl>, Stop>
     ensures ok { IfOk result (λ ds. IsDecls tokens.old tokens.new (map read_decl ds.items)) }
     ensures moves { MovesTo Program (Main ∷ []) tokens.old tokens.new result }
@@ -82,7 +81,6 @@ fn declaration(alloc: Global, form: DeclarationForm, tokens: &mut Tokens) -> Res
     }
 }
 
-#[tactic(auto, using(crate::proofs::HeadSteps::steps, crate::proofs::HeadForms::forms))]
 fn priority(tokens: &mut Tokens) -> Result<RawDecl, Stop>
     ensures ok { IfOk result (λ d. IsDecls tokens.old tokens.new (read_decl d ∷ [])) }
     ensures moves { Moves Priority tokens.old tokens.new result }
@@ -94,7 +92,6 @@ fn priority(tokens: &mut Tokens) -> Result<RawDecl, Stop>
     Ok(RawDecl::Priority(name))
 }
 
-#[tactic(auto, using(crate::proofs::HeadSteps::steps, crate::proofs::HeadForms::forms))]
 fn order(tokens: &mut Tokens) -> Result<RawDecl, Stop>
     ensures ok { IfOk result (λ d. IsDecls tokens.old tokens.new (read_decl d ∷ [])) }
     ensures moves { Moves Order tokens.old tokens.new result }
@@ -108,7 +105,6 @@ fn order(tokens: &mut Tokens) -> Result<RawDecl, Stop>
     Ok(RawDecl::Order(at, lower, upper))
 }
 
-#[tactic(auto, using(crate::proofs::HeadSteps::steps, crate::proofs::HeadForms::forms))]
 fn main(alloc: Global, tokens: &mut Tokens) -> Result<RawMain, Stop>
     ensures ok { IfOk result (λ m. IsMain tokens.old tokens.new (read_main m)) }
     ensures moves { Moves Main tokens.old tokens.new result }

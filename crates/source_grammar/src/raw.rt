@@ -15,9 +15,9 @@ pub enum RawTy {
     Unit,
     Bool,
     Int,
+    Thread(Name, Box<RawTy>),
     Pair(Box<RawTy>, Box<RawTy>),
     Sum(Box<RawTy>, Box<RawTy>),
-    Thread(Name, Box<RawTy>),
 }
 
 /// A type where it is written.
@@ -132,15 +132,15 @@ pub struct RawParam {
 }
 
 /// A procedure: the offset of its word `proc`, its name, its priority variables, the pairs that it is given (the first
-/// at most the second), its parameters, its own priority, its result type and its body.
+/// at most the second), its own priority, its parameters, its result type and its body.
 #[derive(Drop)]
 pub struct RawProc {
     pub at: u64,
     pub name: Name,
     pub vars: Vec<Name>,
     pub given: Vec<(Name, Name)>,
-    pub params: Vec<RawParam>,
     pub own: Name,
+    pub params: Vec<RawParam>,
     pub result: Written,
     pub body: RawBlock,
 }

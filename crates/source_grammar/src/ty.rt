@@ -1,9 +1,11 @@
 //! Types.
+#![tactic(auto, using(crate::proofs::Steps::steps, crate::proofs::Forms::forms))]
 
 ghost use Rattle.std.specs.Prelude.{◌≡◌, ◌∷◌, ◌<◌, IfOk, length};
+ghost use Rattle.source_grammar.specs.declared.choice.TyForm.TheVariants as a_ty;
 ghost use Rattle.source_grammar.specs.Grammar.{IsWritten};
 ghost use Rattle.source_grammar.specs.Joined.{IsToken, mid_type};
-ghost use Rattle.source_grammar.specs.Machine.{PairedTy, SimpleTy, ThreadTy, Ty, TyMid};
+ghost use Rattle.source_grammar.specs.Machine.{Ty, TyMid, TyOf};
 ghost use Rattle.source_grammar.specs.Next.{mid_form};
 ghost use Rattle.source_grammar.specs.RawRead.{read_ty, read_written};
 ghost use Rattle.source_grammar.specs.Stops.{Moves};
@@ -35,7 +37,7 @@ pub fn written(alloc: Global, tokens: &mut Tokens) -> Result<Written, Stop>
 #[tactic(auto, using(crate::proofs::Forms::forms), unfolding(crate::specs::Machine::halt))]
 fn simple(tokens: &mut Tokens) -> Result<Written, Stop>
     ensures ok { IfOk result (λ t. IsWritten tokens.old tokens.new (read_written t)) }
-    ensures moves { Moves SimpleTy tokens.old tokens.new result }
+    ensures moves { Moves (TyOf a_ty.Simple) tokens.old tokens.new result }
     ensures shorter { IfOk result (λ _. length tokens.new < length tokens.old) }
 {
     match tokens.peek() {
@@ -78,10 +80,9 @@ fn simple(tokens: &mut Tokens) -> Result<Written, Stop>
 
 /// The type of a thread.
 #[cycle(ty)]
-#[tactic(auto, using(crate::proofs::Steps::steps, crate::proofs::Forms::forms))]
 fn thread(alloc: Global, tokens: &mut Tokens) -> Result<Written, Stop>
     ensures ok { IfOk result (λ t. IsWritten tokens.old tokens.new (read_written t)) }
-    ensures moves { Moves ThreadTy tokens.old tokens.new result }
+    ensures moves { Moves (TyOf a_ty.Thread) tokens.old tokens.new result }
     ensures shorter { IfOk result (λ _. length tokens.new < length tokens.old) }
 {
     let at = tokens.expect_word(Word::Thread)?;
@@ -99,10 +100,9 @@ fn thread(alloc: Global, tokens: &mut Tokens) -> Result<Written, Stop>
 
 /// A pair or a sum, in brackets.
 #[cycle(ty)]
-#[tactic(auto, using(crate::proofs::Steps::steps, crate::proofs::Forms::forms))]
 fn paired(alloc: Global, tokens: &mut Tokens) -> Result<Written, Stop>
     ensures ok { IfOk result (λ t. IsWritten tokens.old tokens.new (read_written t)) }
-    ensures moves { Moves PairedTy tokens.old tokens.new result }
+    ensures moves { Moves (TyOf a_ty.Paired) tokens.old tokens.new result }
     ensures shorter { IfOk result (λ _. length tokens.new < length tokens.old) }
 {
     let at = tokens.expect_sign(Sign::OpenParen)?;

@@ -1,19 +1,5 @@
-use Rattle.std.proofs.Common.{Some, sym, ap, ◌∙◌}
-use Rattle.source_grammar.specs.declared.raw.RawExpr.{RawExpr}
-use Rattle.source_grammar.specs.Machine.{Expr, Applied, Injected}
 use Rattle.source_grammar.proofs.Forms.{joined_made, applied_made, injected_made}
-use Rattle.source_grammar.proofs.Steps.{moves_along, expr-applied, expr-injected}
 use Rattle.source_grammar.proofs.expr.+expr.Goals as goal
-
-pub expr-returns-in-Some-Applied-clause-moves : goal.expr-returns-in-Some-Applied-clause-moves
-expr-returns-in-Some-Applied-clause-moves t c =
-    let e = sym c.expr_form.ensures ∙ c.in-Some-Applied.is ∙ ap Some c.in-Some-Applied.field-0-is in
-    moves_along RawExpr Expr (Applied c.in-Some-Applied.prefix) _ _ _ (λ xs. sym (expr-applied xs _ _ e)) c.applied.ensures.moves
-
-pub expr-returns-in-Some-Injected-clause-moves : goal.expr-returns-in-Some-Injected-clause-moves
-expr-returns-in-Some-Injected-clause-moves t c =
-    let e = sym c.expr_form.ensures ∙ c.in-Some-Injected.is ∙ ap Some c.in-Some-Injected.field-0-is in
-    moves_along RawExpr Expr (Injected c.in-Some-Injected.side) _ _ _ (λ xs. sym (expr-injected xs _ _ e)) c.injected.ensures.moves
 
 pub joined-returns-clause-ok : goal.joined-returns-clause-ok
 joined-returns-clause-ok t c = λ ts h.

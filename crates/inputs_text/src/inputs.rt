@@ -22,7 +22,6 @@ pub enum InputFault {
 }
 
 impl From<AllocError> for InputFault {
-    ghost use Rattle.std.specs.Prelude.{◌≡◌};
     ghost use Rattle.inputs_text.specs.declared.inputs.InputFault.TheVariants.{OutOfMemory};
 
     ghost from_gives = { λ _ fault. fault ≡ OutOfMemory };

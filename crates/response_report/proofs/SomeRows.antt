@@ -7,7 +7,7 @@ use Rattle.std.proofs.lemmas.List.Elements.{Contains-append_left, Contains-appen
 use Rattle.std.proofs.Math.ListN.{get_or-append}
 use Rattle.std.proofs.Math.Seq.{take-length, take-append-add}
 use Rattle.priority_order.specs.Order.{IsLawful}
-use Rattle.cost_graph.specs.Graph.{CostGraph, Edge, parents_at, thread_total, first_vertex, last_vertex, IsGraph, IsWellFormed, IsVertexBelow}
+use Rattle.cost_graph.specs.Graph.{CostGraph, parents_at, thread_total, first_vertex, last_vertex, IsGraph, IsWellFormed, IsVertexBelow}
 use Rattle.cost_graph.specs.Order.{IsTopological}
 use Rattle.cost_graph.proofs.Ends.{last_below}
 use Rattle.cost_graph.proofs.Members.{no_member, parents_seen}

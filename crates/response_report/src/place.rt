@@ -44,12 +44,9 @@ pub(crate) fn release(places: &Vec<usize>, vertices: &[u32]) -> usize
     requires { All (λ v. v < length places.now.items) vertices.now }
     ensures { IsRelease places.now.items vertices.now result }
 {
-    let mut best = 0;
+    let mut best = 0usize;
     for vertex in vertices {
-        let place = places[*vertex as usize];
-        if place > best {
-            best = place;
-        }
+        best = best.max(places[*vertex as usize]);
     }
     best
 }

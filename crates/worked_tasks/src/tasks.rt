@@ -6,7 +6,6 @@ ghost use Rattle.task_state.specs.Segments.{IsSegmentOf};
 ghost use Rattle.task_state.specs.Tasks.{read_task};
 ghost use Rattle.worked_tasks.specs.Idle.{IsIdle};
 
-use crate::jobs::job_of;
 use crate::turns::{Turn, is_turn, take_turn};
 use core_steps::Local;
 use priml_syntax::{Outcome, Value};
@@ -16,10 +15,7 @@ use std::test::Fail;
 use task_state::Task;
 use trace_book::Segment;
 use type_rules::Job;
-
-/// A root of bg that spawns a thread of ui and waits for it.
-const WAITS: &[u8] =
-    b"priority bg; priority ui; order bg < ui; main at bg : int { h <- spawn[ui] { ret 5 }; x <- sync h; ret x }";
+use worked_jobs::waits_above;
 
 /// Feeds the outcome with which the segment ended its thread to a task that awaits this thread.
 fn feed(job: &Job, task: &mut Task, segment: Segment) -> Result<(), Fail>
@@ -46,7 +42,7 @@ fn feed(job: &Job, task: &mut Task, segment: Segment) -> Result<(), Fail>
 #[test]
 fn two_tasks(rt: HostRuntime) -> Result<(), Fail> {
     let alloc = rt.alloc();
-    let job = job_of(alloc, WAITS, b"")?;
+    let job = waits_above(alloc)?;
     let Ok(mut root) = Task::of_start(alloc, Local::root(alloc, &job)?) else {
         return Err(Fail::new("out of memory"));
     };

@@ -12,6 +12,7 @@ use std::test::Fail;
 use task_state::{Halt, Task};
 use trace_book::Segment;
 use type_rules::Job;
+use worked_jobs::name_of;
 
 /// How a run came to its end, the thread that its last step spawned, how many steps were pending then, and their segment.
 #[derive(Drop)]
@@ -74,16 +75,4 @@ fn are_named(events: &[Event], names: &[&str]) -> bool {
         }
     }
     true
-}
-
-pub(crate) fn name_of(event: &Event) -> &'static str {
-    match event {
-        Event::Start => "start",
-        Event::Plain => "plain",
-        Event::Spawn => "spawn",
-        Event::Join(_) => "join",
-        Event::Read => "read",
-        Event::Wrote(_) => "wrote",
-        Event::End => "end",
-    }
 }

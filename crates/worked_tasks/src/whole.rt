@@ -5,9 +5,8 @@ ghost use Rattle.priml_syntax.specs.Read.{read_record};
 ghost use Rattle.task_state.specs.Tasks.{read_task};
 ghost use Rattle.worked_tasks.specs.Idle.{AreMeant, IsIdle};
 
-use crate::jobs::job_of;
-use crate::turns::{Turn, name_of, take_turn};
-use priml_syntax::{Event, FaultKind, Outcome, Path, Record, Records, Value};
+use crate::turns::{Turn, take_turn};
+use priml_syntax::{Record, Records};
 use serial_meaning::meaning;
 use std::alloc::Global;
 use std::cmp::Ordering;
@@ -15,6 +14,7 @@ use std::test::Fail;
 use task_state::Task;
 use trace_book::{Segment, ThreadLog};
 use type_rules::Job;
+use worked_jobs::{are_same_events, are_same_outcomes, job_of};
 
 /// Each kind of step: a fault, a joined fault, calls, blocks, branches, inputs and outputs.
 const EACH_STEP: &[u8] = b"priority bg; priority ui; order bg < ui;
@@ -56,63 +56,14 @@ fn feed(alloc: Global, job: &Job, records: &Records, task: &mut Task) -> Result<
     Ok(())
 }
 
-/// The thread that the event joined.
-fn joined(event: &Event) -> Option<&Path> {
-    match event {
-        Event::Join(path) => Some(path),
-        _ => None,
-    }
-}
-
-/// The number that the event wrote.
-fn written(event: &Event) -> Option<i64> {
-    match event {
-        Event::Wrote(n) => Some(*n),
-        _ => None,
-    }
-}
-
-fn are_equal(a: &Event, b: &Event) -> bool {
-    let same_thread = match (joined(a), joined(b)) {
-        (Some(p), Some(q)) => p.compare(q) == Ordering::Equal,
-        (p, q) => p.is_none() && q.is_none(),
-    };
-    same_thread && written(a) == written(b) && name_of(a) == name_of(b)
-}
-
-/// The number with which a thread ended.
-fn number(outcome: &Outcome) -> Option<i64> {
-    match outcome {
-        Outcome::Value(Value::Int(n)) => Some(*n),
-        _ => None,
-    }
-}
-
-/// The fault with which a thread ended.
-fn fault(outcome: &Outcome) -> Option<FaultKind> {
-    match outcome {
-        Outcome::Fault(kind) => Some(*kind),
-        Outcome::Value(_) => None,
-    }
-}
-
 /// Whether the log is that of the record of a thread that ended with a number or a fault.
 fn is_record(log: &ThreadLog, record: &Record) -> bool {
-    let events = record.events.as_slice();
-    if log.priority() != record.prio || log.events().len() != events.len() {
+    let Some(outcome) = log.outcome() else {
         return false;
-    }
-    for (a, b) in log.events().iter().zip(events) {
-        if !are_equal(a, b) {
-            return false;
-        }
-    }
-    match log.outcome() {
-        Some(outcome) => {
-            number(outcome) == number(&record.outcome) && fault(outcome) == fault(&record.outcome)
-        }
-        None => false,
-    }
+    };
+    log.priority() == record.prio
+        && are_same_events(log.events(), record.events.as_slice())
+        && are_same_outcomes(outcome, &record.outcome)
 }
 
 /// Runs the task and its descendants to their ends, a thread before its parent goes on, and compares each log with the record

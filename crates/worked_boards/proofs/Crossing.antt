@@ -1,4 +1,4 @@
--- What a thread of a test begins with and what it gives may go to another thread, and threads may share what its closure holds.
+-- What a thread of a test gives may go to another thread, and threads may share what its closure holds.
 use mathlib.Core.List.{[], ◌∷◌}
 use mir.Syntax.{Sym}
 use denote.RattleType.{RattleType}
@@ -14,12 +14,8 @@ use Rattle.priml_syntax.proofs.expr.ExprForm.TheLaws.TheKnot as expr
 use Rattle.priml_syntax.proofs.ty.Ty.TheLaws.TheKnot as ty
 use Rattle.priml_syntax.proofs.value.Value.TheLaws.TheKnot as value
 use Rattle.type_rules.specs.contracts.job.Job as Job
-use Rattle.task_state.specs.contracts.task.Task as Task
 use Rattle.join_board.specs.contracts.owned.BoardSeat as BoardSeat
 use Rattle.join_board.proofs.Crossing.{seat_send}
-
-pub task_send : IsSend Task.the_row
-task_send = search (crosses, block.crosses, expr.crosses, ty.crosses, value.crosses, sendable) depth 60 fits 20000
 
 pub maybe_send : IsSend (Option.the_row BoardSeat.the_row)
 maybe_send = option.the_send BoardSeat.the_row seat_send

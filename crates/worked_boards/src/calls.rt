@@ -1,26 +1,27 @@
 //! Two seats, call by call.
-ghost use Rattle.std.specs.Prelude.{IfOk, OnOk};
+ghost use Rattle.std.specs.Prelude.{IfOk, IfSome, OnOk};
 ghost use Rattle.core_steps.specs.Moves.{read_job as the_job};
 ghost use Rattle.task_state.specs.Tasks.{read_task};
-ghost use Rattle.join_board.specs.Tasks.{HasChild, IsChild, IsIdle};
+ghost use Rattle.join_board.specs.Handles.{knows};
+ghost use Rattle.join_board.specs.Tasks.{CanRun, HasChild, IsChild, IsIdle};
 ghost use Rattle.worked_boards.specs.Seats.{Sits};
 
 use crate::failed::Failed;
-use crate::jobs::{WAITS, job_of};
 use crate::seats::{all_ended, ask_stop, close, commit, count, enroll, look, open, park, stopped};
-use crate::work::fetch;
-use join_board::{Board, BoardSeat, Made};
+use join_board::{Board, BoardSeat, Look, Made};
 use priml_syntax::Path;
 use std::alloc::Global;
 use std::sync::Wait;
 use std::test::Fail;
+use std::thread;
 use task_state::{Halt, Task};
 use trace_book::Book;
 use type_rules::Job;
+use worked_jobs::waits_above;
 
 /// A call of a seat, on a root that spawns one child and then awaits it.
 #[derive(Clone, Copy)]
-enum Call {
+pub(crate) enum Call {
     /// Commits the root's steps to its Spawn.
     Begin,
     /// Commits the child's steps.
@@ -40,7 +41,7 @@ enum Call {
 }
 
 /// The number of a seat, its call, and the answer.
-type Row = (u32, Call, &'static str, i64);
+pub(crate) type Row = (u32, Call, &'static str, i64);
 
 const POLLED: &[Row] = &[
     (0, Call::Begin, "done", 0),
@@ -111,9 +112,39 @@ fn first_steps(
     }
 }
 
-/// Commits the next steps of the task, to which what it awaits is fed.
-fn commit_next<R: Wait>(
-    rt: &R,
+/// The task, to which what it awaits is fed, where that thread has ended. None where another seat has the shard.
+fn fetch(
+    alloc: Global,
+    _job: &Job,
+    board: &Board,
+    seat: &mut BoardSeat,
+    task: Task,
+) -> Result<Option<Task>, Failed>
+    requires seat { Sits (the_job _job.now) board.now seat.old }
+    requires task { IsIdle (the_job _job.now) (read_task task) }
+    ensures seat { OnOk result (Sits (the_job _job.now) board.now seat.new) }
+    ensures fed { IfOk result (λ o. IfSome o (λ t. CanRun (the_job _job.now) (knows seat.new) (read_task t))) }
+{
+    if task.ended() || task.steps() > 1000000 {
+        return Err(Failed("no turn"));
+    }
+    let Some(awaited) = task.awaited() else {
+        return Ok(Some(task));
+    };
+    let path = awaited.copy(alloc)?;
+    let mut task = task;
+    match board.look(alloc, seat, &path) {
+        Look::Ended(outcome) => {
+            task.feed(outcome);
+            Ok(Some(task))
+        }
+        Look::Busy => Ok(None),
+        _ => Err(Failed("not ended")),
+    }
+}
+
+/// Commits the next steps of the task.
+fn commit_next(
     alloc: Global,
     job: &Job,
     board: &Board,
@@ -124,8 +155,8 @@ fn commit_next<R: Wait>(
     requires task { IsIdle (the_job job.now) (read_task task) }
     ensures { OnOk result (Sits (the_job job.now) board.now seat.new) }
 {
-    let Some(mut task) = fetch(rt, alloc, job, board, seat, task)? else {
-        return Err(Failed("parked"));
+    let Some(mut task) = fetch(alloc, job, board, seat, task)? else {
+        return Ok(("busy", 0));
     };
     let Made { halt: _, segment } = seat.run(alloc, job, 0, 64, &mut task)?;
     match segment {
@@ -151,8 +182,7 @@ fn look_child(
 }
 
 /// The answer to a call with a task that has made the root's first steps, or with the child.
-fn of_task<R: Wait>(
-    rt: &R,
+fn of_task(
     alloc: Global,
     job: &Job,
     board: &Board,
@@ -164,15 +194,14 @@ fn of_task<R: Wait>(
 {
     let (root, child) = first_steps(alloc, job, board, seat)?;
     match call {
-        Call::Child => commit_next(rt, alloc, job, board, seat, child),
-        Call::Finish => commit_next(rt, alloc, job, board, seat, root),
+        Call::Child => commit_next(alloc, job, board, seat, child),
+        Call::Finish => commit_next(alloc, job, board, seat, root),
         Call::Enroll => enroll(alloc, job, board, seat, &root, &child),
         _ => park(alloc, job, board, seat, root),
     }
 }
 
-fn answer<R: Wait>(
-    rt: &R,
+fn answer(
     alloc: Global,
     job: &Job,
     board: &Board,
@@ -183,17 +212,43 @@ fn answer<R: Wait>(
     ensures { OnOk result (Sits (the_job job.now) board.now seat.new) }
 {
     match call {
-        Call::Begin => commit_next(rt, alloc, job, board, seat, Task::root(alloc, job)?),
+        Call::Begin => commit_next(alloc, job, board, seat, Task::root(alloc, job)?),
         Call::Look => look_child(alloc, job, board, seat),
         Call::Count => Ok(count(job, board, seat)),
         Call::AllEnded => Ok(all_ended(job, board, seat)),
         Call::AskStop => Ok(ask_stop(job, board, seat)),
         Call::Stopped => Ok(stopped(job, board, seat)),
-        _ => of_task(rt, alloc, job, board, seat, call),
+        _ => of_task(alloc, job, board, seat, call),
     }
 }
 
-/// Makes the calls. The answers are those of the rows, else the first other one's row fails.
+/// Makes the call, again where the other seat has the shard. The answer is that of the row, else it fails.
+pub(crate) fn says<R: Wait>(
+    rt: &R,
+    alloc: Global,
+    job: &Job,
+    board: &Board,
+    seat: &mut BoardSeat,
+    row: Row,
+) -> Result<(), Failed>
+    requires { Sits (the_job job.now) board.now seat.old }
+    ensures { OnOk result (Sits (the_job job.now) board.now seat.new) }
+{
+    let (_, call, word, n) = row;
+    for _ in rt.forever() {
+        let said = answer(alloc, job, board, seat, call)?;
+        if said.0 == word && said.1 == n {
+            return Ok(());
+        }
+        if said.0 != "busy" {
+            return Err(Failed(word));
+        }
+        thread::yield_now();
+    }
+    unreachable!()
+}
+
+/// Makes the calls of the rows.
 fn go_through<R: Wait>(
     rt: &R,
     alloc: Global,
@@ -209,14 +264,10 @@ fn go_through<R: Wait>(
     ensures s1 { OnOk result (Sits (the_job job.now) board.now s1.new) }
 {
     for row in rows {
-        let (number, call, word, n) = *row;
-        let said = if number == 0 {
-            answer(rt, alloc, job, board, s0, call)?
+        if row.0 == 0 {
+            says(rt, alloc, job, board, s0, *row)?;
         } else {
-            answer(rt, alloc, job, board, s1, call)?
-        };
-        if said.0 != word || said.1 != n {
-            return Err(Failed(word));
+            says(rt, alloc, job, board, s1, *row)?;
         }
     }
     Ok(())
@@ -245,7 +296,7 @@ fn book_after<R: Wait>(rt: &R, alloc: Global, job: &Job, rows: &[Row]) -> Result
 #[test]
 fn call_by_call(rt: HostRuntime) -> Result<(), Fail> {
     let alloc = rt.alloc();
-    let job = job_of(alloc, WAITS, b"")?;
+    let job = waits_above(alloc)?;
     for (rows, work) in [(POLLED, 6), (PARKED, 4), (STOPPED, 2)] {
         assert_eq!(rt; book_after(&rt, alloc, &job, rows)?.work(), work);
     }

@@ -4,14 +4,8 @@
 #[cfg(test)]
 mod calls;
 #[cfg(test)]
-mod crowd;
-#[cfg(test)]
 mod failed;
 #[cfg(test)]
-mod jobs;
+mod looks;
 #[cfg(test)]
 mod seats;
-#[cfg(test)]
-mod words;
-#[cfg(test)]
-mod work;

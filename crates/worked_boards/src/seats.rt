@@ -1,18 +1,14 @@
-//! The calls of a board that the cases share.
+//! The calls of a board that the cases share. Their answers are words, with a number.
 ghost use Rattle.std.specs.Prelude.{◌≡◌, ◌<◌, ◌≤◌, IfOk, OnOk, vec_len};
 ghost use Rattle.std.specs.List.{All};
 ghost use Rattle.core_steps.specs.Moves.{read_job as the_job};
-ghost use Rattle.trace_book.specs.Segments.{read_segment};
 ghost use Rattle.task_state.specs.Tasks.{read_task};
-ghost use Rattle.join_board.specs.Calls.{CanCommit};
-ghost use Rattle.join_board.specs.Handles.{knows};
 ghost use Rattle.join_board.specs.Tasks.{IsChild, IsIdle};
-ghost use Rattle.worked_boards.specs.Seats.{Sits};
+ghost use Rattle.worked_boards.specs.Seats.{Commits, Sits};
 
 use crate::failed::Failed;
-use crate::words::{of_commit, of_end, of_enroll, of_look, of_park, of_stop, small};
-use join_board::{Board, BoardSeat, Look, StopCause};
-use priml_syntax::Path;
+use join_board::{Board, BoardSeat, Commit, Enroll, Look, Park, StopCause};
+use priml_syntax::{Outcome, Path, Value};
 use std::alloc::Global;
 use std::test::Fail;
 use task_state::Task;
@@ -62,7 +58,7 @@ pub(crate) fn commit(
     segment: Segment,
 ) -> (&'static str, i64)
     requires seat { Sits (the_job _job.now) board.now seat.old }
-    requires segment { CanCommit (knows seat.old) (read_segment segment) }
+    requires segment { Commits seat.old segment }
     ensures { Sits (the_job _job.now) board.now seat.new }
 {
     of_commit(board.commit(alloc, seat, segment))
@@ -81,8 +77,10 @@ pub(crate) fn enroll(
     requires child { IsChild (the_job _job.now) (read_task parent.now) (read_task child.now) }
     ensures { OnOk result (Sits (the_job _job.now) board.now seat.new) }
 {
-    let Look::NotYet(n) = board.look(alloc, seat, parent.path()) else {
-        return Err(Failed("the parent has ended"));
+    let n = match board.look(alloc, seat, parent.path()) {
+        Look::NotYet(n) => n,
+        Look::Busy => return Ok(("busy", 0)),
+        _ => return Err(Failed("the parent has ended")),
     };
     if n == 0 || n != parent.steps() {
         return Err(Failed("the parent's steps are not on the board"));
@@ -137,4 +135,69 @@ pub(crate) fn stopped(_job: &Job, board: &Board, seat: &mut BoardSeat) -> (&'sta
     ensures { Sits (the_job _job.now) board.now seat.new }
 {
     (of_stop(board.stopped(seat)), 0)
+}
+
+/// The number, or 1000 where it is greater.
+fn small(n: u64) -> i64 {
+    if n < 1000 { n as i64 } else { 1000 }
+}
+
+/// The number with which the thread ended, 0 for another outcome, or how long its log is.
+fn of_look(answer: Look) -> (&'static str, i64) {
+    match answer {
+        Look::Ended(Outcome::Value(Value::Int(n))) => ("ended", n),
+        Look::Ended(_) => ("ended", 0),
+        Look::NotYet(n) => ("not yet", small(n)),
+        Look::Busy => ("busy", 0),
+        Look::OutOfMemory => ("out of memory", 0),
+    }
+}
+
+/// How many steps the task that was handed out has made, or how long the log is.
+fn of_commit(answer: Commit) -> (&'static str, i64) {
+    match answer {
+        Commit::Done(tasks) => of_tasks(&tasks),
+        Commit::Full(_) => ("full", 0),
+        Commit::Busy(_) => ("busy", 0),
+        Commit::Stale(_, n) => ("stale", small(n)),
+        Commit::OutOfMemory(_) => ("out of memory", 0),
+    }
+}
+
+fn of_tasks(tasks: &[Task]) -> (&'static str, i64) {
+    match tasks {
+        [] => ("done", 0),
+        [task] if task.path().parts().len() == 1 => ("done with the root", small(task.steps())),
+        _ => ("done with others", 0),
+    }
+}
+
+fn of_enroll(answer: Enroll) -> &'static str {
+    match answer {
+        Enroll::Done => "done",
+        Enroll::Busy => "busy",
+        Enroll::OutOfMemory => "out of memory",
+    }
+}
+
+fn of_park(answer: Park) -> &'static str {
+    match answer {
+        Park::Parked => "parked",
+        Park::Ended(_) => "ended",
+        Park::Busy(_) => "busy",
+        Park::NoEntry(_) => "no entry",
+        Park::OutOfMemory(_) => "out of memory",
+    }
+}
+
+fn of_end(found: bool) -> &'static str {
+    if found { "all ended" } else { "not all" }
+}
+
+fn of_stop(found: Option<StopCause>) -> &'static str {
+    match found {
+        None => "none",
+        Some(StopCause::Limit) => "limit",
+        Some(StopCause::Memory) => "memory",
+    }
 }

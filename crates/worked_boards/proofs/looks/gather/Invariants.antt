@@ -2,7 +2,7 @@ use Rattle.std.specs.List.{All}
 use Rattle.core_steps.specs.Moves.{read_job}
 use Rattle.join_board.specs.declared.owned.BoardSeat.{BoardSeat}
 use Rattle.worked_boards.specs.Seats.{Sits}
-use Rattle.worked_boards.proofs.crowd.gather.Given as goal
+use Rattle.worked_boards.proofs.looks.gather.Given as goal
 
 abbrev pub invariant-loop-seat : goal.invariant-loop-seat
 invariant-loop-seat l = All (λ (s : BoardSeat). Sits (read_job l.fn._job) l.fn._board s) l.seats.items

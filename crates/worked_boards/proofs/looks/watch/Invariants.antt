@@ -1,6 +1,6 @@
 use Rattle.core_steps.specs.Moves.{read_job}
 use Rattle.worked_boards.specs.Seats.{Sits}
-use Rattle.worked_boards.proofs.crowd.watch.Given as goal
+use Rattle.worked_boards.proofs.looks.watch.Given as goal
 
 abbrev pub invariant-loop : goal.invariant-loop
 invariant-loop l = Sits (read_job l.fn.job) l.fn.board l.seat

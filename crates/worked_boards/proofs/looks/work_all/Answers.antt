@@ -1,15 +1,15 @@
 use denote.Exit.{no}
-use denote.Param.Send.{IsSend, param_send, param_sync, arg_send, arg_sync, shr_sync}
+use denote.Param.Send.{IsSend, param_send, param_sync, arg_send, arg_sync, shr_sync, sendable}
 use denote.Param.SendFields.{declared_send}
-use Rattle.std.proofs.Crossing.{Vec-send}
 use Rattle.std.proofs.alloc.Global.TheSendSync as heap
 use Rattle.join_board.proofs.Crossing.{board_sync, seat_send}
-use Rattle.worked_boards.specs.contracts.crowd.Part as Part
-use Rattle.worked_boards.proofs.Crossing.{four_sync, job_sync, maybe_send, task_send}
-use Rattle.worked_boards.proofs.crowd.work_all.Goals as goal
+use Rattle.worked_boards.specs.contracts.looks.Part as Part
+use Rattle.worked_boards.proofs.Crossing.{four_sync, job_sync, maybe_send}
+use Rattle.worked_boards.proofs.looks.work_all.Goals as goal
 
+-- what a thread begins with
 part_send : IsSend Part.the_row
-part_send = declared_send Part.the_type (seat_send, (Vec-send _ task_send, tt))
+part_send = declared_send Part.the_type (seat_send, (search sendable, tt))
 
 pub map_vec-requires-send-J : goal.map_vec-requires-send-J
 map_vec-requires-send-J g c κs within = param_send 1 _ (arg_send _ no _ part_send)

@@ -1,9 +1,0 @@
-use Rattle.std.specs.List.{All}
-use Rattle.core_steps.specs.Moves.{read_job}
-use Rattle.task_state.specs.Tasks.{read_task}
-use Rattle.join_board.specs.Tasks.{IsIdle}
-use Rattle.worked_boards.specs.Seats.{Sits}
-use Rattle.worked_boards.proofs.work.spread.Given as goal
-
-abbrev pub invariant-loop : goal.invariant-loop
-invariant-loop g l = Sits (read_job l.fn.job) l.fn.board l.seat × All (λ t. IsIdle (read_job l.fn.job) (read_task t)) l.tasks.items

@@ -1,7 +1,7 @@
 ghost use Rattle.std.specs.Prelude.{◌≡◌, ◌↔◌, IsTrue, slice_get, Some, ℕ};
 ghost use Rattle.priml_syntax.specs.declared.prio.Prio.TheVariants.{Const};
 ghost use Rattle.constraint_proof.specs.Entailed.{Entailed};
-ghost use Rattle.constraint_proof.specs.Steps.{IsAccepted, StepFits, Links, RuleFits};
+ghost use Rattle.constraint_proof.specs.Steps.{IsAccepted, StepFits, Links};
 
 use crate::known::same;
 use priml_syntax::Prio;

@@ -1,8 +1,8 @@
-ghost use Rattle.std.specs.Prelude.{◌≡◌, ◌↔◌, ◌<◌, ◌≤◌, ◌+◌, ◌++◌, [], ◌∷◌, IsTrue, IfOk, OnOk, OnErr, length, map, take};
-ghost use Rattle.priority_order.specs.Order.{AtMost, IsWithin};
-ghost use Rattle.priority_order.specs.Edges.{Edges, most_numbers};
+ghost use Rattle.std.specs.Prelude.{◌≡◌, ◌↔◌, ◌<◌, ◌≤◌, ◌+◌, IsTrue, IfOk, length};
+ghost use Rattle.priority_order.specs.Order.{IsWithin};
+ghost use Rattle.priority_order.specs.Edges.{most_numbers};
 ghost use Rattle.constraint_proof.specs.Entailed.{Entailed, IsValid, AreValid, most_variables};
-ghost use Rattle.constraint_proof.specs.Numbers.{number, numbered};
+ghost use Rattle.constraint_proof.specs.Numbers.{number};
 ghost use Rattle.constraint_proof.specs.Facts.{Facts};
 
 use priml_syntax::Prio;

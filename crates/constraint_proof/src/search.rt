@@ -1,10 +1,10 @@
-ghost use Rattle.std.specs.Prelude.{◌≡◌, ◌↔◌, ◌<◌, ◌≤◌, ◌+◌, ◌++◌, ◌*◌, ◌^◌, [], ◌∷◌, ℕ, List, IsTrue, IsNone, IfOk, IfSome, MatchOption, length, take, slice_get};
+ghost use Rattle.std.specs.Prelude.{◌≡◌, ◌↔◌, ◌<◌, ◌≤◌, ◌+◌, ◌++◌, ◌*◌, ◌^◌, [], ◌∷◌, List, IsTrue, IsNone, IfOk, IfSome, length, slice_get};
 ghost use Rattle.std.proofs.Math.ListN.{replicate};
 ghost use Rattle.priority_order.specs.Edges.{most_numbers};
 ghost use Rattle.constraint_proof.specs.Entailed.{AreValid, IsValid, Entailed, most_variables};
 ghost use Rattle.constraint_proof.specs.Numbers.{number};
 ghost use Rattle.constraint_proof.specs.Steps.{IsAccepted, StepFits};
-ghost use Rattle.constraint_proof.specs.Search.{constraints, IsReached, IsSearch, IsClosedTo, Followed, Went, Kept, free, over};
+ghost use Rattle.constraint_proof.specs.Search.{constraints, IsReached, IsSearch, IsClosedTo, Followed, Went, Kept, over};
 ghost use Rattle.constraint_proof.specs.declared.derivation.Step.{Step};
 
 use crate::derivation::{Derivation, Rule, Step};

@@ -1,7 +1,7 @@
 //! What expressions gave, for the step that asked for it.
 
 ghost use Rattle.std.specs.Prelude.{IfOk, map};
-ghost use Rattle.priml_syntax.specs.Read.{read_value, read_term};
+ghost use Rattle.priml_syntax.specs.Read.{read_term};
 ghost use Rattle.core_steps.specs.Expressions.{result_of, results_of};
 ghost use Rattle.core_steps.specs.Fields.{read_frame};
 ghost use Rattle.core_steps.specs.Inside.Locals.{IsGiven, AreGiven};

@@ -1,7 +1,7 @@
 //! Operators on numbers and truth values.
 
-ghost use Rattle.std.specs.Prelude.{◌≡◌, ◌+ℤ◌, ◌-ℤ◌, ◌*ℤ◌, int_div, ℤ, SomeIff, FitsSigned};
-ghost use Rattle.std.specs.Int.{w64, CanDivide};
+ghost use Rattle.std.specs.Prelude.{◌≡◌, ℤ, SomeIff, FitsSigned};
+ghost use Rattle.std.specs.Int.{w64};
 ghost use Rattle.priml_syntax.specs.Read.{read_outcome};
 ghost use Rattle.priml_syntax.specs.Values.{returned, bool_value};
 ghost use Rattle.core_steps.specs.Expressions.{checked, divided, remainder, number_op, truth_op};

@@ -1,5 +1,5 @@
-ghost use Rattle.std.specs.Prelude.{◌≡◌, ℕ, ◌+◌, ◌<◌, ◌++◌, ◌∷◌, ◌^◌, length, get_or, [], List, map, take, replicate, cond, nat_eq, IfOk, OnOk, true, false};
-ghost use Rattle.std.specs.List.{All, Contains, sum_by, list_any};
+ghost use Rattle.std.specs.Prelude.{◌≡◌, ℕ, ◌+◌, ◌<◌, ◌++◌, ◌∷◌, ◌^◌, length, get_or, [], List, take, replicate, cond, nat_eq, IfOk, OnOk};
+ghost use Rattle.std.specs.List.{All, sum_by, list_any};
 ghost use Rattle.std.specs.List.Sorted.{IsStrictlyIncreasing};
 ghost use Rattle.cost_graph.specs.declared.graph.Thread.{Thread as TheThread};
 ghost use Rattle.cost_graph.specs.Graph.{IsGraph, IsOwner, Edge};

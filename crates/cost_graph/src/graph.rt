@@ -1,7 +1,6 @@
-ghost use Rattle.std.specs.Prelude.{◌≡◌, ℕ, ◌+◌, ◌<◌, ◌≤◌, ◌↔◌, length, get_or, [], List, map, IfOk, IfErr, MatchOption};
+ghost use Rattle.std.specs.Prelude.{◌≡◌, ℕ, ◌+◌, ◌<◌, IfOk, IfErr, MatchOption};
 ghost use Rattle.std.specs.Ordering.{nat_cmp};
 ghost use Rattle.std.specs.Cmp.Lexicographic.{slice_cmp};
-ghost use Rattle.std.specs.List.{Contains, HoldsAt};
 ghost use Rattle.cost_graph.specs.Graph.{CostGraph, vertex_total, thread_total, thread_at, parents_at, children_at, first_vertex, last_vertex, vertex_priority, IsGraph, IsOwner, IsVertexAt};
 ghost use Rattle.cost_graph.specs.View.{graph_of};
 

@@ -1,6 +1,6 @@
-ghost use Rattle.std.specs.Prelude.{◌≡◌, ℕ, ◌<◌, ◌↔◌, length, get_or, IfOk, IsTrue, true, false};
+ghost use Rattle.std.specs.Prelude.{◌<◌, ◌↔◌, length, IfOk, IsTrue, true, false};
 ghost use Rattle.std.specs.List.{All};
-ghost use Rattle.cost_graph.specs.Graph.{vertex_total, IsAcyclic, IsProperAncestor};
+ghost use Rattle.cost_graph.specs.Graph.{IsAcyclic, IsProperAncestor};
 ghost use Rattle.cost_graph.specs.Order.{IsTopological, AreMarked};
 ghost use Rattle.cost_graph.specs.Inside.Order.{HasWay};
 

@@ -1,5 +1,5 @@
 //! The inputs: the lists of numbers that threads read.
-ghost use Rattle.std.specs.Prelude.{◌≡◌, ◌+◌, ◌^◌, ◌<◌, ◌∷◌, ◌++◌, [], IfOk, IfErr, OnOk};
+ghost use Rattle.std.specs.Prelude.{◌≡◌, ◌+◌, ◌<◌, ◌∷◌, ◌++◌, [], IfOk, IfErr, OnOk};
 ghost use Rattle.priml_io.specs.Lines.{lines};
 ghost use Rattle.priml_syntax.specs.Inputs.{read_lists as lists_of};
 ghost use Rattle.inputs_text.specs.Inputs.{AreInputs, IsInputs, HasInputFault, ReadsOneWay};

@@ -1,6 +1,5 @@
 //! One line of the inputs.
-ghost use Rattle.std.specs.Prelude.{◌≡◌, ◌≢◌, List, ℕ, ℤ, None, All, IfOk, MatchOption, MatchBool};
-ghost use Rattle.inputs_text.specs.PathText.{IsPathText};
+ghost use Rattle.std.specs.Prelude.{◌≢◌, List, ℤ, None, All, IfOk, MatchOption, MatchBool};
 ghost use Rattle.inputs_text.specs.InputLines.{IsValue, IsNegated, IsNumberText, AreNumbers, IsInputLine, IsCutAtColon};
 ghost use Rattle.inputs_text.specs.Forms.{HasForm};
 

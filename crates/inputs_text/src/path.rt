@@ -1,5 +1,5 @@
 //! The text of a path.
-ghost use Rattle.std.specs.Prelude.{◌≡◌, ◌≢◌, ◌^◌, ◌<◌, ◌≤◌, List, ℕ, length, slice_index, IfOk, MatchOption, MatchBool};
+ghost use Rattle.std.specs.Prelude.{◌≡◌, ◌≢◌, ◌<◌, ◌≤◌, List, ℕ, length, slice_index, IfOk, MatchOption, MatchBool};
 ghost use Rattle.inputs_text.specs.PathText.{Pairwise, between_dots, IsPartText, IsPathText};
 
 use priml_io::{capped_value, is_digits};

@@ -1,7 +1,5 @@
 //! The board is closed: all seats are joined, and the logs become a book.
-ghost use Rattle.std.specs.Prelude.{◌≡◌, ◌+◌, ◌<◌, ◌≤◌, ◌-◌, [], ℕ, vec_capacity, vec_len};
-ghost use mathlib.Core.Option.{some};
-ghost use lib.ListN.{get_elem?};
+ghost use Rattle.std.specs.Prelude.{◌≡◌, ◌+◌, ◌<◌, ◌-◌, [], vec_len};
 ghost use Rattle.task_state.specs.Sums.{total};
 ghost use Rattle.join_board.specs.Logs.{Each};
 ghost use Rattle.join_board.specs.Inside.Views.{left, right, both};

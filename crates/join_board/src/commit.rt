@@ -1,9 +1,9 @@
 //! Steps of a thread are published.
-ghost use Rattle.std.specs.Prelude.{◌≡◌, ◌≢◌, ◌+◌, ◌<◌, ◌≤◌, ◌%◌, ◌^◌, ◌++◌, ◌∷◌, [], false, true, cond, length, None, is_some};
+ghost use Rattle.std.specs.Prelude.{◌≡◌, ◌+◌, ◌<◌, ◌^◌, ◌∷◌, [], false, cond, length, None, is_some};
 ghost use Rattle.priml_syntax.specs.Events.{spawns, ends};
 ghost use Rattle.trace_book.specs.Segments.{read_segment};
 ghost use Rattle.join_board.specs.Threads.{is_spawn, spawned_last};
-ghost use Rattle.join_board.specs.Inside.Views.{gave_view, ahead_view, settled_view};
+ghost use Rattle.join_board.specs.Inside.Views.{ahead_view, settled_view};
 ghost use Rattle.join_board.specs.Inside.Plays.{Grew_by};
 ghost use Rattle.join_board.specs.Handles.{knows, IsSeatOf};
 ghost use Rattle.join_board.specs.Calls.{CanCommit, Committed, IsFull, SameSeat};

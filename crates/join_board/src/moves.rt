@@ -1,5 +1,5 @@
 //! The steps on the words of the table.
-ghost use Rattle.std.specs.Prelude.{◌≡◌, ◌≢◌, ℕ, ◌+◌, ◌-◌, ◌^◌, ◌<◌, ◌≤◌, [], ◌∷◌, Some, None, MatchOption, MatchBool, true, cond};
+ghost use Rattle.std.specs.Prelude.{◌≡◌, ◌+◌, ◌-◌, ◌^◌, ◌<◌, ◌≤◌, [], ◌∷◌, Some, None, MatchOption, MatchBool, cond};
 ghost use Rattle.join_board.specs.Inside.Views.{took_view, missed_view, gave_view, back_view, quiet_view, ahead_view, behind_view, alive_view, over_view, counted_view, asked_limit_view, asked_memory_view, unset_view, found_limit_view, found_memory_view};
 ghost use Rattle.join_board.specs.Logs.{size, spawned, finished};
 ghost use Rattle.join_board.specs.Inside.Plays.{Taken, Grew};

@@ -1,5 +1,5 @@
 //! The board is opened.
-ghost use Rattle.std.specs.Prelude.{◌≡◌, ◌+◌, ◌-◌, ◌<◌, ◌≤◌, [], ◌∷◌, IfOk, vec_len};
+ghost use Rattle.std.specs.Prelude.{◌≡◌, ◌-◌, ◌<◌, ◌≤◌, IfOk, vec_len};
 ghost use Rattle.core_steps.specs.Moves.{read_job};
 ghost use Rattle.join_board.specs.Jobs.{the_job};
 ghost use Rattle.join_board.specs.Logs.{Each};

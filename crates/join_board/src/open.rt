@@ -1,5 +1,5 @@
 //! The table, and what it begins with.
-ghost use Rattle.std.specs.Prelude.{◌≡◌, ◌+◌, ◌<◌, ◌≤◌, ◌^◌, ◌++◌, [], ◌∷◌, Some, IfOk, OnOk, ℕ, List, length, map, replicate};
+ghost use Rattle.std.specs.Prelude.{◌≡◌, ◌<◌, ◌≤◌, [], ◌∷◌, Some, IfOk, OnOk, List, length, map, replicate};
 ghost use Rattle.core_steps.specs.Fields.{read_local};
 ghost use Rattle.core_steps.specs.Moves.{read_job};
 ghost use Rattle.join_board.specs.Entries.{Entry};

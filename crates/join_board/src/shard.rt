@@ -1,5 +1,5 @@
 //! A shard: the logs of some threads, and the tasks that wait for their ends.
-ghost use Rattle.std.specs.Prelude.{◌≡◌, ◌≢◌, ◌+◌, ◌*◌, ◌^◌, ◌<◌, ◌≤◌, ◌++◌, ◌∷◌, [], List, length, map, slice_index_or, None, IfOk, IfErr, OnOk, OnErr, MatchOption, is_some};
+ghost use Rattle.std.specs.Prelude.{◌≡◌, ◌+◌, ◌*◌, ◌<◌, ◌++◌, ◌∷◌, [], List, length, map, None, IfOk, IfErr, OnOk, OnErr, MatchOption, is_some};
 ghost use mathlib.Core.Option.{some};
 ghost use lib.ListN.{get_elem?};
 ghost use Rattle.std.specs.Option.{option_copied, option_map};
@@ -7,7 +7,7 @@ ghost use Rattle.priml_syntax.specs.Read.{read_outcome};
 ghost use Rattle.trace_book.specs.Logs.{IsNext, appended as log_appended};
 ghost use Rattle.trace_book.specs.Segments.{read_segment};
 ghost use Rattle.join_board.specs.Entries.{Entry};
-ghost use Rattle.join_board.specs.Logs.{Missing, IsAt, fresh, shard_of, sum_of};
+ghost use Rattle.join_board.specs.Logs.{Missing, IsAt, fresh, shard_of};
 ghost use Rattle.join_board.specs.Inside.Finds.{Appended, Parked};
 
 use priml_syntax::{Outcome, Path};

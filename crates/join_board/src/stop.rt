@@ -1,5 +1,5 @@
 //! The ends of all threads, the count of steps, and the stop.
-ghost use Rattle.std.specs.Prelude.{◌≡◌, ◌<◌, ◌≤◌, ◌+◌, [], ◌∷◌, MatchBool, true};
+ghost use Rattle.std.specs.Prelude.{◌≡◌, ◌<◌, ◌≤◌, ◌+◌, MatchBool};
 ghost use Rattle.join_board.specs.Handles.{knows, IsSeatOf};
 ghost use Rattle.join_board.specs.Calls.{SameSeat, NoWork};
 ghost use Rattle.join_board.specs.Clauses.{MayAsk, Asked, Stopped};

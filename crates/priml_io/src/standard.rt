@@ -1,7 +1,7 @@
 ghost use Rattle.std.specs.Prelude.{◌≡◌, ◌<◌, length, None, Ok, IsOk, IsErr, IsNone, IfOk, IfSome};
 ghost use Rattle.std.specs.Io.{ReadsAtMost, WritesAtMost};
 ghost use Rattle.std.specs.Io.KnownBytes.{ReadConsumes, WriteAppends};
-ghost use Rattle.priml_io.specs.Ends.{HasCause, PutGrows, Counts};
+ghost use Rattle.priml_io.specs.Ends.{HasCause, Counts};
 
 use crate::ends::{Failed, Sink, Source};
 use std::io::{Read, Write};

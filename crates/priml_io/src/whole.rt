@@ -1,4 +1,4 @@
-ghost use Rattle.std.specs.Prelude.{◌≡◌, ◌-◌, ◌<◌, ◌≤◌, ◌^◌, IsErrOf, OnErr};
+ghost use Rattle.std.specs.Prelude.{◌-◌, ◌<◌, ◌≤◌, ◌^◌, IsErrOf, OnErr};
 ghost use Rattle.priml_io.specs.Ends.{Rose};
 ghost use Rattle.priml_io.specs.Whole.{Reads, Writes};
 

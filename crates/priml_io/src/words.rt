@@ -1,4 +1,4 @@
-ghost use Rattle.std.specs.Prelude.{◌≡◌, ◌+◌, ◌-◌, ◌^◌, ◌<◌, ◌≤◌, ◌∷◌, [], length, map, min, string_bytes, Result, MatchOption, IfOk, IfErr, MatchBool};
+ghost use Rattle.std.specs.Prelude.{◌≡◌, ◌+◌, ◌-◌, ◌^◌, ◌<◌, ◌∷◌, [], length, map, min, string_bytes, Result, MatchOption, IfOk, IfErr, MatchBool};
 ghost use Rattle.priml_io.specs.declared.words.Name.{Name};
 ghost use Rattle.priml_io.specs.Words.{steps, cores, workers, quantum, samples, word_of, bounds, name_of, numbers_of, word_at, IsDigit, IsDigits, value_of, IsNumber, HasFault, AreNumbers, HasFirstFault, ReadsWords};
 

@@ -1,4 +1,4 @@
-ghost use Rattle.std.specs.Prelude.{◌≡◌, ℕ, IfOk, map};
+ghost use Rattle.std.specs.Prelude.{◌≡◌, ℕ, IfOk};
 ghost use Rattle.priml_syntax.specs.Tree.{block};
 ghost use Rattle.priml_syntax.specs.Read.{read_code, read_act, read_tail};
 ghost use Rattle.priml_syntax.specs.Lists.{body_of};

@@ -1,6 +1,5 @@
 //! A queue that all ends share, as one of them holds it.
 ghost use Rattle.std.specs.Prelude.{◌≡◌, IfOk};
-ghost use Rattle.std.specs.Arc.{arc_value};
 ghost use Rattle.crossbeam_queue.specs.SegTies.{IsSegPassOf};
 ghost use Rattle.priority_deques.specs.Ends.{fresh_book};
 ghost use Rattle.priority_deques.specs.Handles.{shared_book};

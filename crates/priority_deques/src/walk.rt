@@ -1,5 +1,5 @@
 //! The walk over the lanes, written once for both forms.
-ghost use Rattle.std.specs.Prelude.{◌≡◌, ◌<◌, ◌^◌, ℕ, List, length, map, slice_get, MatchOption, OnOk, IfErr, Some};
+ghost use Rattle.std.specs.Prelude.{◌≡◌, ◌<◌, ◌^◌, length, slice_get, MatchOption, OnOk, IfErr, Some};
 ghost use Rattle.std.specs.List.{AllZip};
 ghost use Rattle.task_state.specs.Tasks.{read_task};
 ghost use Rattle.priority_deques.specs.declared.parts.LaneDeques.{LaneDeques as TheDeques};

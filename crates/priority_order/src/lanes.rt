@@ -1,4 +1,4 @@
-ghost use Rattle.std.specs.Prelude.{◌≡◌, ◌↔◌, ◌<◌, ◌^◌, ℕ, IsTrue, IfOk, length, slice_get, slice_index};
+ghost use Rattle.std.specs.Prelude.{◌≡◌, ◌↔◌, ◌<◌, ◌^◌, ℕ, IsTrue, IfOk, length, slice_get};
 ghost use Rattle.std.specs.List.{Contains};
 ghost use Rattle.priority_order.specs.Order.{IsBelow, IsLawful, Remains, IsTop, IsNext, AreLanes};
 ghost use Rattle.priority_order.specs.Parts.{ArePlaces};

@@ -1,5 +1,4 @@
-ghost use Rattle.std.specs.Prelude.{◌≡◌, ◌↔◌, ◌<◌, ◌≤◌, ◌^◌, [], ◌∷◌, ◌++◌, ℕ, IsTrue, IfOk, IfErr, length, map, string_bytes, slice_index_or, slice_get};
-ghost use Rattle.std.specs.List.{All};
+ghost use Rattle.std.specs.Prelude.{◌≡◌, ◌↔◌, ◌<◌, ◌≤◌, ◌^◌, [], ℕ, IsTrue, IfOk, IfErr, length, map, string_bytes, slice_index_or, slice_get};
 ghost use Rattle.priority_order.specs.Order.{AtMost, IsBelow, IsLawful, IsWithin, HasLane, most_names};
 ghost use Rattle.priority_order.specs.Fault.{IsCause};
 

@@ -1,6 +1,6 @@
 ghost use Rattle.std.specs.Prelude.{◌≡◌, ℕ, ◌<◌, ◌∷◌, ◌++◌, [], map, Some, None, OnOk, IfOk, IfErr, IfSome, MatchOption};
 ghost use Rattle.std.specs.List.{All, Contains};
-ghost use Rattle.cost_graph.specs.Graph.{vertex_total, thread_total, IsVertexAt};
+ghost use Rattle.cost_graph.specs.Graph.{vertex_total, IsVertexAt};
 ghost use Rattle.priml_io.specs.Lines.{lines};
 ghost use Rattle.inputs_text.specs.PathText.{Pairwise};
 ghost use Rattle.inputs_text.specs.InputLines.{words_of};

@@ -1,7 +1,6 @@
 //! The vertices that are ready, by priority.
-ghost use Rattle.std.specs.Prelude.{◌≡◌, ℕ, ◌<◌, ◌≤◌, ◌↔◌, ◌⊎◌, length, true, false, None, OnOk, IfOk, MatchBool, IfSome};
+ghost use Rattle.std.specs.Prelude.{◌≡◌, ℕ, ◌<◌, ◌↔◌, ◌⊎◌, length, true, false, None, OnOk, IfOk, MatchBool, IfSome};
 ghost use Rattle.std.specs.List.{All, Contains};
-ghost use Rattle.priority_order.specs.Order.{IsBelow};
 ghost use Rattle.cost_graph.specs.declared.graph.Thread.{Thread as TheThread};
 ghost use Rattle.cost_graph.specs.Graph.{vertex_total, vertex_priority};
 ghost use Rattle.prompt_checker.specs.Inside.Watch.{IsLeastOf, lesser_of, holds, IsAbove, IsHeld, IsIdle, IsOvertaken, IsUnfair};

@@ -1,4 +1,4 @@
-ghost use Rattle.std.specs.Prelude.{◌≡◌, ℕ, ◌+◌, ◌<◌, length, get_or, IfOk, nat_eq, List};
+ghost use Rattle.std.specs.Prelude.{◌≡◌, ℕ, ◌+◌, ◌<◌, length, get_or, IfOk, nat_eq};
 ghost use Rattle.std.specs.List.{All, Contains, IsDistinct, concat};
 ghost use Rattle.cost_graph.specs.Graph.{vertex_total};
 ghost use Rattle.prompt_checker.specs.Read.{steps_of};

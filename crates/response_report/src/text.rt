@@ -1,9 +1,9 @@
-ghost use Rattle.std.specs.Prelude.{◌≡◌, ℕ, ◌++◌, ◌∷◌, [], ◌<◌, List, OnOk, IfOk, length, codes, get_or};
+ghost use Rattle.std.specs.Prelude.{◌≡◌, ◌++◌, ◌∷◌, [], ◌<◌, OnOk, IfOk, length, codes};
 ghost use Rattle.std.specs.String.{string_bytes};
 ghost use Rattle.std.specs.Fmt.{decimal};
 ghost use Rattle.std.specs.List.{All};
 ghost use Rattle.cost_graph.specs.declared.graph.Thread.{Thread as TheThread};
-ghost use Rattle.cost_graph.specs.Graph.{thread_total, thread_at};
+ghost use Rattle.cost_graph.specs.Graph.{thread_total};
 ghost use Rattle.response_report.specs.declared.row.Row.{Row as TheRow};
 ghost use Rattle.response_report.specs.Text.{row_line, response_lines};
 

@@ -1,6 +1,6 @@
 //! The tokens that are left to read.
 
-ghost use Rattle.std.specs.Prelude.{◌≡◌, ◌∷◌, ◌++◌, [], IfOk, OnOk, MatchOption, length};
+ghost use Rattle.std.specs.Prelude.{◌≡◌, ◌∷◌, ◌++◌, [], IfOk, OnOk, MatchOption};
 ghost use Rattle.source_grammar.specs.Grammar.{name, sign, word};
 ghost use Rattle.source_grammar.specs.Machine.{AName, ASign, AWord};
 ghost use Rattle.source_grammar.specs.Next.{declaration_form, action_form, expr_form, form_at, is_at, is_end, is_name, is_sign, joint_form, mid_form, tail_form, ty_form};

@@ -1,9 +1,9 @@
 //! Procedures.
 #![tactic(auto, using(crate::proofs::HeadSteps::steps, crate::proofs::HeadForms::forms))]
 
-ghost use Rattle.std.specs.Prelude.{◌≡◌, ◌∷◌, IfOk, ◌<◌, length};
+ghost use Rattle.std.specs.Prelude.{◌∷◌, IfOk, ◌<◌, length};
 ghost use Rattle.source_tokens.specs.declared.token.Sign.TheVariants as a_sign;
-ghost use Rattle.source_grammar.specs.Grammar.{IsHead, IsListed, IsName, IsProcedure, IsRoutine, sign};
+ghost use Rattle.source_grammar.specs.Grammar.{IsHead, IsProcedure, IsRoutine, sign};
 ghost use Rattle.source_grammar.specs.Joined.{EndsHead};
 ghost use Rattle.source_grammar.specs.Machine.{ASign, HeadClose, HeadEnd, HeadGiven, HeadOpen, HeadVariables, Procedure, Routine};
 ghost use Rattle.source_grammar.specs.RawRead.{read_main, read_proc};

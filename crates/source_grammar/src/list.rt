@@ -1,6 +1,6 @@
 //! Lists with commas between their parts.
 
-ghost use Rattle.std.specs.Prelude.{List, ◌≡◌, ◌∷◌, ◌++◌, [], ◌<◌, ◌≤◌, IfOk, length};
+ghost use Rattle.std.specs.Prelude.{List, ◌∷◌, [], ◌<◌, ◌≤◌, IfOk, length};
 ghost use Rattle.source_tokens.specs.declared.token.Token.{Token};
 ghost use Rattle.source_grammar.specs.Grammar.{IsExpr, IsGiven, IsListed, IsName, IsParameter, IsSeparated};
 ghost use Rattle.source_grammar.specs.Joined.{IsBehindComma};

@@ -1,7 +1,7 @@
 //! Types.
 #![tactic(auto, using(crate::proofs::Steps::steps, crate::proofs::Forms::forms))]
 
-ghost use Rattle.std.specs.Prelude.{◌≡◌, ◌∷◌, ◌<◌, IfOk, length};
+ghost use Rattle.std.specs.Prelude.{◌≡◌, ◌<◌, IfOk, length};
 ghost use Rattle.source_grammar.specs.declared.choice.TyForm.TheVariants as a_ty;
 ghost use Rattle.source_grammar.specs.Grammar.{IsWritten};
 ghost use Rattle.source_grammar.specs.Joined.{IsToken, mid_type};

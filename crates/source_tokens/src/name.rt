@@ -1,6 +1,6 @@
 //! The distinct names of a text, and what a lexeme means among them.
 ghost use Rattle.std.specs.Prelude.{◌≡◌, ◌<◌, IsTrue, IfOk, MatchOption, Some, slice_get};
-ghost use Rattle.source_tokens.specs.Lexes.{IsName, Spells};
+ghost use Rattle.source_tokens.specs.Lexes.{Spells};
 ghost use Rattle.source_tokens.specs.Forms.{IsForm};
 ghost use Rattle.source_tokens.specs.Names.{name_bytes, IsNumbered, IsTooLarge};
 

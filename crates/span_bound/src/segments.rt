@@ -1,4 +1,4 @@
-ghost use Rattle.std.specs.Prelude.{◌≡◌, ℕ, ◌+◌, ◌-◌, ◌<◌, ◌≤◌, ◌++◌, ◌∷◌, [], length, List, IfOk, OnOk, true, get_or, set, ◌^◌};
+ghost use Rattle.std.specs.Prelude.{◌≡◌, ℕ, ◌+◌, ◌-◌, ◌<◌, ◌++◌, ◌∷◌, [], length, IfOk, OnOk, true, get_or, set, ◌^◌};
 ghost use Rattle.std.specs.List.{All};
 ghost use Rattle.cost_graph.specs.Graph.{vertex_total, parents_at, children_at};
 ghost use Rattle.cost_graph.specs.Order.{IsTopological};

@@ -1,8 +1,8 @@
 ghost use Rattle.std.specs.Prelude.{◌≡◌, ◌+◌, ◌++◌, [], ◌∷◌, length, OnOk, IsTrue, ◌↔◌};
 ghost use Rattle.priml_syntax.specs.Tree.{bool};
-ghost use Rattle.priml_syntax.specs.Read.{read_term, read_form, read_code, read_act, read_tail};
+ghost use Rattle.priml_syntax.specs.Read.{read_code, read_act, read_tail};
 ghost use Rattle.type_rules.specs.Typing.{CodeInScope, BodyInScope, ActInScope};
-ghost use Rattle.type_rules.specs.Shared.{read_shared, read_shape};
+ghost use Rattle.type_rules.specs.Shared.{read_shared};
 ghost use Rattle.type_rules.specs.Answers.{setting, scope_of, CodeAnswer, BodyAnswer, ActAnswer};
 ghost use Rattle.type_rules.specs.Helpers.{OutputAnswer, JoinedAnswer, ChosenAnswer, PartsAnswer, ThreadAnswer, SyncAnswer};
 

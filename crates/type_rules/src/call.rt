@@ -1,6 +1,6 @@
 ghost use Rattle.std.specs.Prelude.{◌≡◌, ◌<◌, map, length, MatchResult, IsTrue, ◌↔◌};
 ghost use Rattle.priml_syntax.specs.Tree.{call};
-ghost use Rattle.priml_syntax.specs.Read.{read_sig, read_type, read_term, read_form};
+ghost use Rattle.priml_syntax.specs.Read.{read_type, read_term};
 ghost use Rattle.type_rules.specs.Typing.{HaveTypes, AllInScope, subst_type};
 ghost use Rattle.type_rules.specs.Shared.{read_shared};
 ghost use Rattle.type_rules.specs.Answers.{setting, scope_of, ActAnswer, TermsStop};

@@ -1,4 +1,4 @@
-ghost use Rattle.std.specs.Prelude.{◌≡◌, ◌≢◌, map, MatchResult, IfOk};
+ghost use Rattle.std.specs.Prelude.{◌≡◌, map, MatchResult, IfOk};
 ghost use Rattle.std.specs.List.{All};
 ghost use Rattle.priml_syntax.specs.Read.{read_type, read_proc, read_program};
 ghost use Rattle.priml_syntax.specs.Scoped.{RoutineIn, IsScoped};

@@ -1,9 +1,9 @@
-ghost use Rattle.std.specs.Prelude.{◌≡◌, ◌<◌, map, length, MatchResult, IsTrue, ◌↔◌};
+ghost use Rattle.std.specs.Prelude.{◌≡◌, ◌<◌, length, MatchResult, IsTrue, ◌↔◌};
 ghost use Rattle.priml_syntax.specs.Size.{type_nodes};
 ghost use Rattle.priml_syntax.specs.Tree.{pair};
-ghost use Rattle.priml_syntax.specs.Read.{read_type, read_term, read_form};
+ghost use Rattle.priml_syntax.specs.Read.{read_type, read_term};
 ghost use Rattle.type_rules.specs.Typing.{HasType, InScope, operand, gives};
-ghost use Rattle.type_rules.specs.Shared.{read_shared, read_shape};
+ghost use Rattle.type_rules.specs.Shared.{read_shared};
 ghost use Rattle.type_rules.specs.Answers.{scope_of, TermStops};
 ghost use Rattle.type_rules.specs.Helpers.{PairAnswer, FirstAnswer, SecondAnswer, LeftAnswer, RightAnswer, OperatorAnswer, TruthAnswer};
 

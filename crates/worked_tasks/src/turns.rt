@@ -1,5 +1,5 @@
 //! One run of a task, with the segment that it hands out.
-ghost use Rattle.std.specs.Prelude.{◌≡◌, IfOk, OnOk, IfSome};
+ghost use Rattle.std.specs.Prelude.{IfOk, OnOk, IfSome};
 ghost use Rattle.core_steps.specs.Moves.{read_job as the_job};
 ghost use Rattle.trace_book.specs.Segments.{read_segment};
 ghost use Rattle.task_state.specs.Segments.{IsSegmentOf};

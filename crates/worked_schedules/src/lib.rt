@@ -2,14 +2,4 @@
 #![tactic(auto)]
 
 #[cfg(test)]
-mod build;
-#[cfg(test)]
-mod nested;
-#[cfg(test)]
-mod parents;
-#[cfg(test)]
-mod roots;
-#[cfg(test)]
-mod schedules;
-#[cfg(test)]
-mod sizes;
+mod tests;

@@ -9,6 +9,7 @@ mod row;
 mod text;
 
 pub use bound::response_is_bounded;
+pub use cost_graph::GraphStop as ReportStop;
 pub use laws::{rows_are_one, some_rows};
 pub use report::rows;
 pub use row::Row;

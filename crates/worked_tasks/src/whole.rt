@@ -1,5 +1,5 @@
 //! A whole job by tasks, beside its serial meaning.
-ghost use Rattle.std.specs.Prelude.{OnOk, map};
+ghost use Rattle.std.specs.Prelude.{IfOk, OnOk, IfSome, map};
 ghost use Rattle.core_steps.specs.Moves.{read_job as the_job};
 ghost use Rattle.priml_syntax.specs.Read.{read_record};
 ghost use Rattle.task_state.specs.Tasks.{read_task};
@@ -66,6 +66,28 @@ fn is_record(log: &ThreadLog, record: &Record) -> bool {
         && are_same_outcomes(outcome, &record.outcome)
 }
 
+/// Feeds the task what it awaits, takes a turn, and appends its steps to the log. The child that the last of them spawned.
+fn go_on(
+    alloc: Global,
+    job: &Job,
+    records: &Records,
+    log: &mut ThreadLog,
+    task: &mut Task,
+    quantum: u32,
+) -> Result<Option<Task>, Fail>
+    requires task { IsIdle (the_job job.now) (read_task task.old) }
+    requires meant { AreMeant (the_job job.now) (map read_record records.now) }
+    ensures idle { OnOk result (IsIdle (the_job job.now) (read_task task.new)) }
+    ensures child { IfOk result (λ o. IfSome o (λ c. IsIdle (the_job job.now) (read_task c))) }
+{
+    feed(alloc, job, records, task)?;
+    let Turn { child, segment, .. } = take_turn(alloc, job, task, quantum)?;
+    if let Some(segment) = segment {
+        append(log, segment)?;
+    }
+    Ok(child)
+}
+
 /// Runs the task and its descendants to their ends, a thread before its parent goes on, and compares each log with the record
 /// of its thread. The number of threads, of which each stands at most `depth` below the one before.
 fn run_whole(
@@ -92,12 +114,7 @@ fn run_whole(
                 _ => Err(Fail::new("another record")),
             };
         }
-        feed(alloc, job, records, &mut task)?;
-        let Turn { child, segment, .. } = take_turn(alloc, job, &mut task, quantum)?;
-        if let Some(segment) = segment {
-            append(&mut log, segment)?;
-        }
-        if let Some(child) = child {
+        if let Some(child) = go_on(alloc, job, records, &mut log, &mut task, quantum)? {
             let more = run_whole(alloc, job, records, child, quantum, depth - 1)?;
             threads = threads.saturating_add(more);
         }

@@ -22,5 +22,5 @@ pub use laws::some_graph;
 pub use order::{has_cycle, topological};
 pub use reachability::{ancestors, descendants};
 pub use shape::well_formed;
-pub use stop::{GraphStop, Shape};
+pub use stop::{GraphStop, GraphStop as ShapeStop, Shape};
 pub use text::push_vertex;

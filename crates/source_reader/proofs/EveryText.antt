@@ -70,9 +70,9 @@ in_text text f (of_names (fault.TooMany at what) l d is) e = absurd (cc)
 pub source_laws : (text : List ℕ) → SourceLaws text
 source_laws text = record {
   decided = every_text text;
+  scoped = λ p s. scoped_as s.names s.raw p s.clean s.meant;
   one_program = one_program text;
   one_fault = one_fault text;
   not_both = no_fault text;
   in_text = in_text text;
-  scoped = λ p s. scoped_as s.names s.raw p s.clean s.meant;
 }

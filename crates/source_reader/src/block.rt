@@ -12,7 +12,7 @@ ghost use Rattle.source_reader.specs.Fits.{TermsFit, CodeFits, BodyFits, ActFits
 ghost use Rattle.source_reader.specs.Gives.{IsMade};
 ghost use Rattle.source_reader.specs.Known.{env_in};
 
-use crate::faults::{Fault, ResolveStop, What};
+use crate::faults::{Fault, Made, ResolveStop, What};
 use crate::list::{expressions, priorities};
 use crate::names::{Names, bring};
 use crate::term::{expression, priority, procedure, variable};
@@ -25,12 +25,7 @@ const SCOPE: usize = 32;
 
 /// The block, its names resolved in this scope.
 #[cycle(resolve)]
-pub fn block_of(
-    alloc: Global,
-    names: &Names,
-    scope: &mut Vec<usize>,
-    raw: &RawBlock,
-) -> Result<Block, ResolveStop>
+pub fn block_of(alloc: Global, names: &Names, scope: &mut Vec<usize>, raw: &RawBlock) -> Made<Block>
     requires room { length scope.old.items ≤ 32 }
     requires fits { CodeFits (read_block raw.now) }
     ensures gives { IsMade (code_faults (read_block raw.now) (env_in names.now) scope.old.items) (code_meant (read_block raw.now) (env_in names.now) scope.old.items) read_code result }
@@ -55,12 +50,7 @@ pub fn block_of(
 
 // The bound action; its name is in scope from here on.
 #[cycle(resolve)]
-fn bound(
-    alloc: Global,
-    names: &Names,
-    scope: &mut Vec<usize>,
-    raw: &RawBind,
-) -> Result<Action, ResolveStop>
+fn bound(alloc: Global, names: &Names, scope: &mut Vec<usize>, raw: &RawBind) -> Made<Action>
     requires room { length scope.old.items ≤ 32 }
     requires fits { ActFits (read_action raw.now.action) }
     ensures gives { IsMade (scope_faults raw.now.name scope.old.items ++ act_faults (read_action raw.now.action) (env_in names.now) scope.old.items) (act_meant (read_action raw.now.action) (env_in names.now) scope.old.items) read_act result }
@@ -78,12 +68,7 @@ fn bound(
 
 // The action, its names resolved in this scope.
 #[cycle(resolve)]
-fn action_of(
-    alloc: Global,
-    names: &Names,
-    scope: &mut Vec<usize>,
-    raw: &RawAction,
-) -> Result<Action, ResolveStop>
+fn action_of(alloc: Global, names: &Names, scope: &mut Vec<usize>, raw: &RawAction) -> Made<Action>
     requires room { length scope.old.items ≤ 32 }
     requires fits { ActFits (read_action raw.now) }
     ensures gives { IsMade (act_faults (read_action raw.now) (env_in names.now) scope.old.items) (act_meant (read_action raw.now) (env_in names.now) scope.old.items) read_act result }
@@ -113,12 +98,7 @@ fn action_of(
 
 // The ending of a block, its names resolved in this scope.
 #[cycle(resolve)]
-fn ending(
-    alloc: Global,
-    names: &Names,
-    scope: &mut Vec<usize>,
-    raw: &RawTail,
-) -> Result<Tail, ResolveStop>
+fn ending(alloc: Global, names: &Names, scope: &mut Vec<usize>, raw: &RawTail) -> Made<Tail>
     requires room { length scope.old.items ≤ 32 }
     requires fits { BodyFits (read_raw_tail raw.now.form raw.now.at) }
     ensures gives { IsMade (body_faults (read_raw_tail raw.now.form raw.now.at) (env_in names.now) scope.old.items) (body_meant (read_raw_tail raw.now.form raw.now.at) (env_in names.now) scope.old.items) (λ t. read_tail t.form t.at) result }
@@ -136,7 +116,7 @@ fn form_of(
     scope: &mut Vec<usize>,
     at: u64,
     raw: &RawTailForm,
-) -> Result<TailForm, ResolveStop>
+) -> Made<TailForm>
     requires room { length scope.old.items ≤ 32 }
     requires fits { BodyFits (read_raw_tail raw.now at) }
     ensures gives { IsMade (body_faults (read_raw_tail raw.now at) (env_in names.now) scope.old.items) (body_meant (read_raw_tail raw.now at) (env_in names.now) scope.old.items) (λ f. read_tail f at) result }
@@ -167,7 +147,7 @@ fn branch(
     scope: &mut Vec<usize>,
     inside: &Name,
     raw: &RawBlock,
-) -> Result<Box<Block>, ResolveStop>
+) -> Made<Box<Block>>
     requires room { length scope.old.items ≤ 32 }
     requires fits { CodeFits (read_block raw.now) }
     ensures gives { IsMade (scope_faults inside.now scope.old.items ++ code_faults (read_block raw.now) (env_in names.now) (scope.old.items ++ inside.now.id ∷ [])) (code_meant (read_block raw.now) (env_in names.now) (scope.old.items ++ inside.now.id ∷ [])) (λ b. read_code b.value) result }
@@ -190,7 +170,7 @@ fn boxed_block(
     names: &Names,
     scope: &mut Vec<usize>,
     raw: &RawBlock,
-) -> Result<Box<Block>, ResolveStop>
+) -> Made<Box<Block>>
     requires room { length scope.old.items ≤ 32 }
     requires fits { CodeFits (read_block raw.now) }
     ensures gives { IsMade (code_faults (read_block raw.now) (env_in names.now) scope.old.items) (code_meant (read_block raw.now) (env_in names.now) scope.old.items) (λ b. read_code b.value) result }
@@ -208,7 +188,7 @@ fn call(
     called: &Name,
     given: &[Name],
     arguments: &[RawExpr],
-) -> Result<Action, ResolveStop>
+) -> Made<Action>
     requires room { length scope.now ≤ 32 }
     requires fits { TermsFit (map read_expr arguments.now) }
     ensures { IsMade (proc_faults (env_in names.now) called.now ++ (prios_faults (env_in names.now) given.now ++ terms_faults (env_in names.now) (map read_expr arguments.now) scope.now)) (tree.call (number_of ((env_in names.now).procs called.now.id)) (prios_meant (env_in names.now) given.now) (terms_meant (env_in names.now) (map read_expr arguments.now) scope.now)) read_act result }

@@ -44,6 +44,9 @@ pub enum ResolveStop {
     OutOfMemory,
 }
 
+/// What is made of names, or why they are not resolved.
+pub type Made<T> = Result<T, ResolveStop>;
+
 impl From<AllocError> for ResolveStop {
     ghost use Rattle.source_reader.specs.declared.faults.ResolveStop.TheVariants.{OutOfMemory};
 

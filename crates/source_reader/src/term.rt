@@ -11,7 +11,7 @@ ghost use Rattle.source_reader.specs.Fits.{TermFits};
 ghost use Rattle.source_reader.specs.Gives.{IsMade, plain};
 ghost use Rattle.source_reader.specs.Known.{env_in};
 
-use crate::faults::{Fault, ResolveStop, What};
+use crate::faults::{Fault, Made, ResolveStop, What};
 use crate::names::{Names, find};
 use priml_syntax::{Expr, ExprForm, Prio, Ty, boxed};
 use source_grammar::raw::{Name, RawExpr, RawForm, RawTy, Written};
@@ -22,7 +22,7 @@ const NODES: u64 = 16;
 
 /// The variable of the name at this offset.
 #[tactic(auto, using(crate::proofs::Lookup::lookup_within))]
-pub fn variable(scope: &[usize], at: u64, id: usize) -> Result<u32, ResolveStop>
+pub fn variable(scope: &[usize], at: u64, id: usize) -> Made<u32>
     requires { length scope.now ≤ 32 }
     ensures { IsMade (var_faults at id scope.now) (place_of id scope.now) plain result }
 {
@@ -34,7 +34,7 @@ pub fn variable(scope: &[usize], at: u64, id: usize) -> Result<u32, ResolveStop>
 
 /// The priority of this name: a variable of the procedure, or a declared one.
 #[tactic(auto, using(crate::proofs::Lookup::lookup_within))]
-pub fn priority(names: &Names, name: &Name) -> Result<Prio, ResolveStop>
+pub fn priority(names: &Names, name: &Name) -> Made<Prio>
     ensures { IsMade (prio_faults (env_in names.now) name.now) (prio_of (env_in names.now) name.now.id) plain result }
 {
     match find(&names.vars, name.id) {
@@ -47,7 +47,7 @@ pub fn priority(names: &Names, name: &Name) -> Result<Prio, ResolveStop>
 }
 
 /// The number of the procedure of this name.
-pub fn procedure(names: &Names, name: &Name) -> Result<u32, ResolveStop>
+pub fn procedure(names: &Names, name: &Name) -> Made<u32>
     ensures { IsMade (proc_faults (env_in names.now) name.now) (number_of ((env_in names.now).procs name.now.id)) plain result }
 {
     match names.procedures.get(name.id) {
@@ -57,7 +57,7 @@ pub fn procedure(names: &Names, name: &Name) -> Result<u32, ResolveStop>
 }
 
 /// The type as it is written, of at most 16 nodes.
-pub fn written(alloc: Global, names: &Names, raw: &Written) -> Result<Ty, ResolveStop>
+pub fn written(alloc: Global, names: &Names, raw: &Written) -> Made<Ty>
     ensures { IsMade (written_faults (env_in names.now) (read_written raw.now)) (type_meant (env_in names.now) (read_ty raw.now.ty)) read_type result }
 {
     if nodes(&raw.ty) > NODES {
@@ -79,7 +79,7 @@ fn nodes(raw: &RawTy) -> u64
 
 // The type, its priorities resolved.
 #[cycle(types)]
-fn type_of(alloc: Global, names: &Names, raw: &RawTy) -> Result<Ty, ResolveStop>
+fn type_of(alloc: Global, names: &Names, raw: &RawTy) -> Made<Ty>
     ensures { IsMade (type_faults (env_in names.now) (read_ty raw.now)) (type_meant (env_in names.now) (read_ty raw.now)) read_type result }
 {
     match raw {
@@ -105,7 +105,7 @@ fn type_of(alloc: Global, names: &Names, raw: &RawTy) -> Result<Ty, ResolveStop>
 }
 
 #[cycle(types)]
-fn boxed_type(alloc: Global, names: &Names, raw: &RawTy) -> Result<Box<Ty>, ResolveStop>
+fn boxed_type(alloc: Global, names: &Names, raw: &RawTy) -> Made<Box<Ty>>
     ensures { IsMade (type_faults (env_in names.now) (read_ty raw.now)) (type_meant (env_in names.now) (read_ty raw.now)) (λ t. read_type t.value) result }
 {
     let ty = type_of(alloc, names, raw)?;
@@ -114,12 +114,7 @@ fn boxed_type(alloc: Global, names: &Names, raw: &RawTy) -> Result<Box<Ty>, Reso
 
 /// The expression, its names resolved in this scope.
 #[cycle(terms)]
-pub fn expression(
-    alloc: Global,
-    names: &Names,
-    scope: &[usize],
-    raw: &RawExpr,
-) -> Result<Expr, ResolveStop>
+pub fn expression(alloc: Global, names: &Names, scope: &[usize], raw: &RawExpr) -> Made<Expr>
     requires room { length scope.now ≤ 32 }
     requires fits { TermFits (read_expr raw.now) }
     ensures { IsMade (term_faults (env_in names.now) (read_expr raw.now) scope.now) (term_meant (env_in names.now) (read_expr raw.now) scope.now) read_term result }
@@ -128,15 +123,19 @@ pub fn expression(
     Ok(Expr { at: raw.at, form })
 }
 
+#[cycle(terms)]
+fn boxed_term(alloc: Global, names: &Names, scope: &[usize], raw: &RawExpr) -> Made<Box<Expr>>
+    requires room { length scope.now ≤ 32 }
+    requires fits { TermFits (read_expr raw.now) }
+    ensures { IsMade (term_faults (env_in names.now) (read_expr raw.now) scope.now) (term_meant (env_in names.now) (read_expr raw.now) scope.now) (λ e. read_term e.value) result }
+{
+    let e = expression(alloc, names, scope, raw)?;
+    Ok(boxed(alloc, e)?)
+}
+
 // The form of an expression at this offset.
 #[cycle(terms)]
-fn form_of(
-    alloc: Global,
-    names: &Names,
-    scope: &[usize],
-    at: u64,
-    raw: &RawForm,
-) -> Result<ExprForm, ResolveStop>
+fn form_of(alloc: Global, names: &Names, scope: &[usize], at: u64, raw: &RawForm) -> Made<ExprForm>
     requires room { length scope.now ≤ 32 }
     requires fits { TermFits (read_raw_form raw.now at) }
     ensures { IsMade (term_faults (env_in names.now) (read_raw_form raw.now at) scope.now) (term_meant (env_in names.now) (read_raw_form raw.now at) scope.now) (λ f. read_form f at) result }
@@ -170,19 +169,4 @@ fn form_of(
         }
         RawForm::Not(a) => Ok(ExprForm::Not(boxed_term(alloc, names, scope, a)?)),
     }
-}
-
-#[cycle(terms)]
-fn boxed_term(
-    alloc: Global,
-    names: &Names,
-    scope: &[usize],
-    raw: &RawExpr,
-) -> Result<Box<Expr>, ResolveStop>
-    requires room { length scope.now ≤ 32 }
-    requires fits { TermFits (read_expr raw.now) }
-    ensures { IsMade (term_faults (env_in names.now) (read_expr raw.now) scope.now) (term_meant (env_in names.now) (read_expr raw.now) scope.now) (λ e. read_term e.value) result }
-{
-    let e = expression(alloc, names, scope, raw)?;
-    Ok(boxed(alloc, e)?)
 }

@@ -17,11 +17,11 @@ returns-in_err-e c =
 
 pub loop-raw-preserved : goal.loop-raw-preserved
 loop-raw-preserved c =
+    let env = env_in c.args.names.now in
+    let scope = c.args.scope.now in
     let xs = c.args.list.now in
     let i = c.loop-raw.raw-index in
     let d = c.raw-item.result in
-    let env = env_in c.args.names.now in
-    let scope = c.args.scope.now in
     let next = next_term xs i d c.loop-raw-test.true c.raw-item.is in
     let fits = subst TermsFit next c.loop-raw.invariant.fits in
     record {

@@ -29,11 +29,11 @@ returns-in_err-declared c =
 
 pub returns-in_err-main : goal.returns-in_err-main
 returns-in_err-main c =
+    let d = c.in_ok-declared.ensures in
     let p = read_raw c.args.raw.now in
     let env = env_of p.decls in
     let e = c.in_err-main.field-0.0 in
     let known = env_in c.in_ok-known.known in
-    let d = c.in_ok-declared.ensures in
     let same : known ≡ narrowed env = c.in_ok-known.ensures ∙ ap (λ v. narrowed (env_of (map read_decl v))) c.deref.ensures.value in
     let none : decls_faults known p.decls [] ≡ [] = subst (λ v. decls_faults known (map read_decl v) [] ≡ []) c.deref-2.ensures.value d.faults in
     let clean : decls_faults env p.decls [] ≡ [] = sym (ap (λ v. decls_faults v p.decls []) same ∙ decls_same env p.decls []) ∙ none in

@@ -1,6 +1,6 @@
 //! The priorities and the arguments of a call.
 
-ghost use Rattle.std.specs.Prelude.{◌≡◌, ◌≤◌, ◌++◌, ◌∷◌, [], length, map};
+ghost use Rattle.std.specs.Prelude.{◌≤◌, length, map};
 ghost use Rattle.priml_syntax.specs.Read.{read_term};
 ghost use Rattle.source_grammar.specs.RawRead.{read_expr};
 ghost use Rattle.source_reader.specs.Faults.{prios_faults, terms_faults};

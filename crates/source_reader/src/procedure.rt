@@ -2,7 +2,7 @@
 
 ghost use Rattle.std.specs.Prelude.{◌≡◌, ◌≤◌, ◌++◌, ◌∷◌, [], length, map, OnOk, IfOk};
 ghost use Rattle.priml_syntax.specs.Read.{read_type, read_proc};
-ghost use Rattle.source_grammar.specs.RawRead.{read_block, read_param, read_main};
+ghost use Rattle.source_grammar.specs.RawRead.{read_param, read_main};
 ghost use Rattle.source_grammar.specs.RawRead.{read_proc as read_raw_proc};
 ghost use Rattle.source_reader.specs.Names.{ids, param_ids};
 ghost use Rattle.source_reader.specs.Faults.{vars_faults, givens_faults, params_faults, procedure_faults, main_faults, given_faults, inside_faults};

@@ -99,34 +99,18 @@ fn text_at(words: &[String], k: usize) -> &[u8]
 fn find_name(word: &[u8]) -> Option<Name>
     ensures { MatchOption result ((n : Name) → ¬ (word.now ≡ word_of n)) (λ n. word.now ≡ word_of n) }
 {
-    if word == b"check".as_slice() {
-        return Some(Name::Check);
+    match word {
+        b"check" => Some(Name::Check),
+        b"serial" => Some(Name::Serial),
+        b"report" => Some(Name::Report),
+        b"run" => Some(Name::Run),
+        b"trace" => Some(Name::Trace),
+        b"graph" => Some(Name::Graph),
+        b"plan" => Some(Name::Plan),
+        b"judge" => Some(Name::Judge),
+        b"sample" => Some(Name::Sample),
+        _ => None,
     }
-    if word == b"serial".as_slice() {
-        return Some(Name::Serial);
-    }
-    if word == b"report".as_slice() {
-        return Some(Name::Report);
-    }
-    if word == b"run".as_slice() {
-        return Some(Name::Run);
-    }
-    if word == b"trace".as_slice() {
-        return Some(Name::Trace);
-    }
-    if word == b"graph".as_slice() {
-        return Some(Name::Graph);
-    }
-    if word == b"plan".as_slice() {
-        return Some(Name::Plan);
-    }
-    if word == b"judge".as_slice() {
-        return Some(Name::Judge);
-    }
-    if word == b"sample".as_slice() {
-        return Some(Name::Sample);
-    }
-    None
 }
 
 fn count_of(name: Name) -> usize

@@ -6,16 +6,14 @@ ghost use Rattle.task_state.specs.Tasks.{read_task};
 ghost use Rattle.priority_deques.specs.EndBooks.{steal_job};
 ghost use Rattle.priority_deques.specs.Tasks.{IsAtRest};
 
-use crate::tasks::{job_of, push, root_of, spawn};
+use crate::tasks::{push, root_of, spawn};
 use priority_deques::{Lanes, Pick, SharedLanes, StealEnd, StealLanes};
 use std::alloc::Global;
 use std::sync::Wait;
 use std::test::Fail;
 use task_state::Task;
 use type_rules::Job;
-
-const A: &[u8] =
-    b"priority bg; priority ui; order bg < ui; main at ui : int { h <- spawn[bg] { ret 5 }; ret 1 }";
+use worked_jobs::leaves;
 
 /// What a pick tells: its lane, and the length of its thread's path.
 type Found = Option<(u32, usize)>;
@@ -109,7 +107,7 @@ fn worked_case<R: Wait, L: Lanes>(
 #[test]
 fn shared_lanes(rt: HostRuntime) -> Result<(), Fail> {
     let alloc = rt.alloc();
-    let job = job_of(alloc, A)?;
+    let job = leaves().job(alloc)?;
     let mut ends = SharedLanes::open(alloc, &job, 2)?;
     worked_case(&rt, alloc, &job, &mut ends)
 }
@@ -117,7 +115,7 @@ fn shared_lanes(rt: HostRuntime) -> Result<(), Fail> {
 #[test]
 fn stealing_lanes(rt: HostRuntime) -> Result<(), Fail> {
     let alloc = rt.alloc();
-    let job = job_of(alloc, A)?;
+    let job = leaves().job(alloc)?;
     let mut ends = StealLanes::open(alloc, &job, 2)?;
     worked_case(&rt, alloc, &job, &mut ends)
 }
@@ -127,10 +125,8 @@ fn push_root(alloc: Global, job: &Job, end: &mut StealEnd) -> Result<(), Fail>
     requires { steal_job end.old ≡ job.now }
     ensures { steal_job end.new ≡ job.now }
 {
-    match push(job, end, root_of(alloc, job)?) {
-        true => Ok(()),
-        false => Err(Fail::new("refused")),
-    }
+    push(job, end, root_of(alloc, job)?)?;
+    Ok(())
 }
 
 /// `put_child` without a runtime.
@@ -138,10 +134,8 @@ fn push_child(alloc: Global, job: &Job, end: &mut StealEnd) -> Result<(), Fail>
     requires { steal_job end.old ≡ job.now }
     ensures { steal_job end.new ≡ job.now }
 {
-    match push(job, end, child_of(alloc, job)?) {
-        true => Ok(()),
-        false => Err(Fail::new("refused")),
-    }
+    push(job, end, child_of(alloc, job)?)?;
+    Ok(())
 }
 
 /// `gives` without a runtime.
@@ -175,7 +169,7 @@ fn worked_at_once(alloc: Global, job: &Job, ends: &mut [StealEnd]) -> Result<(),
 #[test]
 fn stealing_lanes_at_once(rt: HostRuntime) -> Result<(), Fail> {
     let alloc = rt.alloc();
-    let job = job_of(alloc, A)?;
+    let job = leaves().job(alloc)?;
     let mut ends = StealLanes::open(alloc, &job, 2)?;
     worked_at_once(alloc, &job, &mut ends)
 }

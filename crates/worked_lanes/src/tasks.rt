@@ -5,23 +5,10 @@ ghost use Rattle.task_state.specs.Tasks.{read_task};
 ghost use Rattle.priority_deques.specs.EndBooks.{steal_job};
 ghost use Rattle.priority_deques.specs.Tasks.{IsAtRest};
 
-use inputs_text::read_inputs;
 use priority_deques::StealEnd;
-use source_reader::read_source;
 use std::alloc::{AllocError, Global};
-use std::test::Fail;
 use task_state::{Halt, Task};
-use type_rules::{Job, check};
-
-/// The job of a text, without inputs.
-pub(crate) fn job_of(alloc: Global, text: &[u8]) -> Result<Job, Fail> {
-    let program = read_source(alloc, text)?;
-    let inputs = read_inputs(alloc, b"")?;
-    match check(alloc, program) {
-        Ok(checked) => Ok(Job::new(checked, inputs)),
-        Err(_) => Err(Fail::new("not typable")),
-    }
-}
+use type_rules::Job;
 
 /// The root's task.
 #[tactic(auto, using(crate::proofs::Rests::start_rests))]
@@ -49,12 +36,15 @@ pub(crate) fn spawn(alloc: Global, job: &Job, task: &mut Task) -> Result<Option<
     }
 }
 
-/// Puts the task into the lanes without a runtime, and tells whether it went there.
+/// Puts the task into the lanes without a runtime. A task that is refused is let go.
 #[tactic(auto, using(crate::proofs::Rests::rests_as))]
-pub(crate) fn push(_job: &Job, end: &mut StealEnd, task: Task) -> bool
+pub(crate) fn push(_job: &Job, end: &mut StealEnd, task: Task) -> Result<(), AllocError>
     requires job { steal_job end.old ≡ _job.now }
     requires task { IsAtRest (the_job _job.now) (read_task task) }
     ensures { steal_job end.new ≡ _job.now }
 {
-    end.push_task(task).is_ok()
+    match end.push_task(task) {
+        Ok(()) => Ok(()),
+        Err(_) => Err(AllocError),
+    }
 }

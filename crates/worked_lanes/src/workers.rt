@@ -6,7 +6,7 @@ ghost use Rattle.task_state.specs.Tasks.{read_task};
 ghost use Rattle.priority_deques.specs.EndBooks.{steal_job};
 ghost use Rattle.priority_deques.specs.Tasks.{IsAtRest};
 
-use crate::tasks::{job_of, push, root_of, spawn};
+use crate::tasks::{push, root_of, spawn};
 use priority_deques::{StealEnd, StealLanes};
 use std::alloc::{AllocError, Global};
 use std::sync::atomic::{AtomicU64, Ordering};
@@ -15,6 +15,7 @@ use std::thread;
 use std::thread::Threads;
 use task_state::{Halt, Task};
 use type_rules::Job;
+use worked_jobs::job_of;
 
 const TASKS: usize = 8;
 /// How many tasks each worker takes.
@@ -43,7 +44,7 @@ fn put_two(alloc: Global, job: &Job, end: &mut StealEnd, i: usize) -> Result<boo
         let Some(child) = spawn(alloc, job, &mut root)? else {
             return Ok(false);
         };
-        if n / 2 == i && !push(job, end, child) {
+        if n / 2 == i && push(job, end, child).is_err() {
             return Ok(false);
         }
     }
@@ -87,7 +88,7 @@ fn pass_on(alloc: Global, job: &Job, end: &mut StealEnd, mut task: Task, seen: &
     if let Some(count) = seen.get(place_of(&task)) {
         count.fetch_add(1, Ordering::SeqCst);
     }
-    advance(alloc, job, &mut task) && push(job, end, task)
+    advance(alloc, job, &mut task) && push(job, end, task).is_ok()
 }
 
 /// Puts two tasks, and then takes tasks and puts them back.
@@ -185,7 +186,7 @@ fn is_each_key_seen<R: Threads + Sync>(rt: &R, alloc: Global, job: &Job) -> Resu
 #[test]
 fn each_key_comes_out_once(rt: HostRuntime) -> Result<(), Fail> {
     let alloc = rt.alloc();
-    let job = job_of(alloc, LONG)?;
+    let job = job_of(alloc, LONG, b"")?;
     assert!(rt; is_each_key_seen(&rt, alloc, &job)?);
     Ok(())
 }

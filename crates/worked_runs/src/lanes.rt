@@ -2,7 +2,6 @@
 ghost use Rattle.std.specs.Prelude.{◌+◌, ◌^◌, ◌<◌, ◌≤◌};
 
 use crate::count::counted;
-use crate::jobs::{SUMS, WAITS};
 use priority_deques::{SharedLanes, StealLanes};
 use std::alloc::Global;
 use std::sync::Wait;
@@ -12,22 +11,29 @@ use std::thread::Threads;
 use steal_runtime::{Free, Gate, RunStop, run_over};
 use trace_book::Book;
 use type_rules::Job;
+use worked_jobs::{sums, waits};
+
+/// How many workers a run has, the most steps of a turn, and the limit of its steps.
+#[derive(Clone, Copy)]
+pub(crate) struct Setup {
+    pub workers: u32,
+    pub quantum: u32,
+    pub limit: u64,
+}
 
 /// Runs the job over shared queues, as `run_job` does over stealing deques.
 pub(crate) fn run_shared<R: Threads + Wait + Sync, G: Gate>(
     rt: &R,
     alloc: Global,
     job: &Job,
-    workers: u32,
-    quantum: u32,
-    limit: u64,
+    setup: Setup,
     gate: &G,
 ) -> Result<Book, RunStop>
-    requires workers { (0 < workers) × (workers ≤ 16) }
-    requires ranges { (0 < quantum) × (limit + 1 < 2 ^ 64) }
+    requires workers { (0 < setup.workers) × (setup.workers ≤ 16) }
+    requires ranges { (0 < setup.quantum) × (setup.limit + 1 < 2 ^ 64) }
 {
-    let ends = SharedLanes::open(alloc, job, workers)?;
-    run_over(rt, alloc, job, ends, quantum, limit, gate)
+    let ends = SharedLanes::open(alloc, job, setup.workers)?;
+    run_over(rt, alloc, job, ends, setup.quantum, setup.limit, gate)
 }
 
 /// Runs the job over shared queues that count.
@@ -58,22 +64,26 @@ fn steal_counted<R: Threads + Wait + Sync>(
     run_over(rt, alloc, job, ends, 1, 100, &Free)
 }
 
+/// The work of a run, which has to be whole.
+pub(crate) fn work_of(book: Result<Book, RunStop>) -> Result<u64, Fail> {
+    match book {
+        Ok(book) => Ok(book.work()),
+        Err(_) => Err(Fail::new("no book")),
+    }
+}
+
 /// The tasks that one worker puts: the root at the start and after its Start, it and its child after its Spawn, the child after each
 /// of its steps but the last, the root when the child has ended, since it was parked till then, and after its Join.
 #[test]
 fn tasks_go_through_both_forms(rt: HostRuntime) -> Result<(), Fail> {
     let alloc = rt.alloc();
-    let job = WAITS.job(alloc)?;
-    let (shared, stealing) = (AtomicU64::new(0), AtomicU64::new(0));
-    let (Ok(one), Ok(other)) = (
-        share_counted(&rt, alloc, &job, &shared, 1, 1, 100),
-        steal_counted(&rt, alloc, &job, &stealing),
-    ) else {
-        return Err(Fail::new("no book"));
-    };
-    assert!(rt; one.work() == WAITS.work && other.work() == WAITS.work);
-    assert_eq!(rt; shared.load(Ordering::SeqCst), 9);
-    assert_eq!(rt; stealing.load(Ordering::SeqCst), 9);
+    let job = waits().job(alloc)?;
+    let puts = AtomicU64::new(0);
+    let book = share_counted(&rt, alloc, &job, &puts, 1, 1, 100);
+    assert_eq!(rt; (work_of(book)?, puts.load(Ordering::SeqCst)), (8, 9));
+    let puts = AtomicU64::new(0);
+    let book = steal_counted(&rt, alloc, &job, &puts);
+    assert_eq!(rt; (work_of(book)?, puts.load(Ordering::SeqCst)), (8, 9));
     Ok(())
 }
 
@@ -81,12 +91,10 @@ fn tasks_go_through_both_forms(rt: HostRuntime) -> Result<(), Fail> {
 #[test]
 fn each_thread_has_a_task(rt: HostRuntime) -> Result<(), Fail> {
     let alloc = rt.alloc();
-    let job = SUMS.job(alloc)?;
-    let count = AtomicU64::new(0);
-    let Ok(book) = share_counted(&rt, alloc, &job, &count, 2, 64, 100000) else {
-        return Err(Fail::new("no book"));
-    };
-    assert_eq!(rt; book.work(), SUMS.work);
-    assert!(rt; count.load(Ordering::SeqCst) >= 6);
+    let job = sums().job(alloc)?;
+    let puts = AtomicU64::new(0);
+    let book = share_counted(&rt, alloc, &job, &puts, 2, 64, 100000);
+    assert_eq!(rt; work_of(book)?, 348);
+    assert!(rt; puts.load(Ordering::SeqCst) >= 6);
     Ok(())
 }

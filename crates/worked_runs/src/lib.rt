@@ -4,12 +4,8 @@
 #[cfg(test)]
 mod count;
 #[cfg(test)]
-mod jobs;
-#[cfg(test)]
 mod lanes;
 #[cfg(test)]
 mod meets;
 #[cfg(test)]
 mod runs;
-#[cfg(test)]
-mod same;

@@ -1,22 +1,25 @@
 //! Two workers have to meet: while one is held in its second turn, the other has to enter one.
-use crate::jobs::SUMS;
-use crate::lanes::run_shared;
+use crate::lanes::{Setup, run_shared, work_of};
 use std::test::Fail;
 use steal_runtime::{Meet, run_job};
+use worked_jobs::sums;
 
 #[test]
 fn two_workers_meet(rt: HostRuntime) -> Result<(), Fail> {
     let alloc = rt.alloc();
-    let job = SUMS.job(alloc)?;
-    let (shared, stealing) = (Meet::new(&rt), Meet::new(&rt));
-    let (Ok(one), Ok(other)) = (
-        run_shared(&rt, alloc, &job, 2, 2, 100000, &shared),
-        run_job(&rt, alloc, &job, 2, 2, 100000, &stealing),
-    ) else {
-        return Err(Fail::new("no book"));
+    let job = sums().job(alloc)?;
+    let two = Setup {
+        workers: 2,
+        quantum: 2,
+        limit: 100000,
     };
-    assert!(rt; one.work() == SUMS.work && other.work() == SUMS.work);
-    assert!(rt; shared.met() && !shared.ran_out());
-    assert!(rt; stealing.met() && !stealing.ran_out());
+    let meet = Meet::new(&rt);
+    let book = run_shared(&rt, alloc, &job, two, &meet);
+    assert_eq!(rt; work_of(book)?, 348);
+    assert!(rt; meet.met() && !meet.ran_out());
+    let meet = Meet::new(&rt);
+    let book = run_job(&rt, alloc, &job, 2, 2, 100000, &meet);
+    assert_eq!(rt; work_of(book)?, 348);
+    assert!(rt; meet.met() && !meet.ran_out());
     Ok(())
 }

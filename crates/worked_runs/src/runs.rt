@@ -1,7 +1,6 @@
 //! Runs of jobs on workers, each beside the job's serial meaning.
-use crate::jobs::{ENDLESS, JOBS, LEAVES, Worked, job_of};
-use crate::lanes::run_shared;
-use crate::same::are_same;
+use crate::lanes::{Setup, run_shared};
+use priml_syntax::Records;
 use serial_meaning::{MeaningStop, meaning};
 use std::alloc::Global;
 use std::sync::Wait;
@@ -10,154 +9,161 @@ use std::thread::Threads;
 use steal_runtime::{Free, RunStop, run_job};
 use trace_book::Book;
 use type_rules::Job;
+use worked_jobs::{Worked, are_same, crowd, endless, leaves, worked_jobs};
 
-/// Whether a run goes over shared queues, how many workers it has, the most steps of a turn, and the limit of its steps.
-#[derive(Clone, Copy)]
-struct Setup {
-    is_shared: bool,
-    workers: u32,
-    quantum: u32,
-    limit: u64,
+/// How a run came to its end, beside the serial meaning of its job.
+#[derive(Clone, Copy, PartialEq, Eq)]
+enum Ran {
+    /// Whole, with the records of the serial meaning: so many steps, and so many threads.
+    Whole(u64, usize),
+    /// Stopped above the limit, and the serial meaning is over it too.
+    Stopped,
+    Otherwise,
 }
 
-/// Runs the job over shared queues or stealing deques: its book, or the number of steps with which it was stopped.
+/// What a whole run came to.
+fn of_book(alloc: Global, book: &Book, meant: &Records) -> Result<Ran, Fail> {
+    match book.records(alloc)? {
+        Some(records) if are_same(&records, meant) => {
+            Ok(Ran::Whole(book.work(), records.list().len()))
+        }
+        _ => Ok(Ran::Otherwise),
+    }
+}
+
+/// Runs the job, over shared queues or over stealing deques.
 fn run<R: Threads + Wait + Sync>(
     rt: &R,
     alloc: Global,
     job: &Job,
+    is_shared: bool,
     setup: Setup,
-) -> Result<Result<Book, u64>, Fail> {
+) -> Result<Ran, Fail> {
     let Setup {
-        is_shared,
         workers,
         quantum,
         limit,
     } = setup;
-    if workers == 0 || workers > 16 || quantum == 0 || limit > 100000 {
+    if workers == 0 || workers > 16 || quantum == 0 || limit > 1000000 {
         return Err(Fail::new("out of range"));
     }
     let book = if is_shared {
-        run_shared(rt, alloc, job, workers, quantum, limit, &Free)
+        run_shared(rt, alloc, job, setup, &Free)
     } else {
         run_job(rt, alloc, job, workers, quantum, limit, &Free)
     };
-    match book {
-        Ok(book) => Ok(Ok(book)),
-        Err(RunStop::StepLimit(steps)) => Ok(Err(steps)),
-        Err(RunStop::OutOfMemory) => Err(Fail::new("out of memory")),
+    match (book, meaning(alloc, job, limit)) {
+        (Ok(book), Ok(meant)) => of_book(alloc, &book, &meant),
+        (Err(RunStop::StepLimit(steps)), Err(MeaningStop::Over)) if steps > limit => {
+            Ok(Ran::Stopped)
+        }
+        _ => Ok(Ran::Otherwise),
     }
 }
 
-/// Whether the run is whole, with as many steps as its limit, and has the records of the serial meaning.
+/// Whether the job is run whole in both forms on 1 to 16 workers, with a limit of just its work.
 fn is_whole<R: Threads + Wait + Sync>(
     rt: &R,
     alloc: Global,
-    job: &Job,
-    setup: Setup,
+    worked: &Worked,
 ) -> Result<bool, Fail> {
-    let Ok(meant) = meaning(alloc, job, setup.limit) else {
-        return Ok(false);
-    };
-    let Ok(book) = run(rt, alloc, job, setup)? else {
-        return Ok(false);
-    };
-    match book.records(alloc)? {
-        Some(records) => Ok(book.work() == setup.limit && are_same(&records, &meant)),
-        None => Ok(false),
+    let job = worked.job(alloc)?;
+    let limit = worked.work;
+    for workers in [1, 2, 4, 16] {
+        for quantum in [1, 2, 64] {
+            for is_shared in [false, true] {
+                let setup = Setup {
+                    workers,
+                    quantum,
+                    limit,
+                };
+                let ran = run(rt, alloc, &job, is_shared, setup)?;
+                if !matches!(ran, Ran::Whole(work, _) if work == limit) {
+                    return Ok(false);
+                }
+            }
+        }
     }
-}
-
-/// Whether the run is stopped above the limit, and the serial meaning is over it too.
-fn is_stopped<R: Threads + Wait + Sync>(
-    rt: &R,
-    alloc: Global,
-    job: &Job,
-    setup: Setup,
-) -> Result<bool, Fail> {
-    let is_over = matches!(meaning(alloc, job, setup.limit), Err(MeaningStop::Over));
-    match run(rt, alloc, job, setup)? {
-        Ok(_) => Ok(false),
-        Err(steps) => Ok(is_over && steps > setup.limit),
-    }
+    Ok(true)
 }
 
 #[test]
 fn whole_runs(rt: HostRuntime) -> Result<(), Fail> {
     let alloc = rt.alloc();
-    for worked in JOBS {
-        let job = worked.job(alloc)?;
-        for workers in [1, 2, 4, 16] {
-            for quantum in [1, 2, 64] {
-                let stealing = Setup {
-                    is_shared: false,
+    for worked in worked_jobs() {
+        assert!(rt; is_whole(&rt, alloc, &worked)?);
+    }
+    Ok(())
+}
+
+/// Whether the job is stopped at each of the limits in both forms on 1, 2 and 16 workers.
+fn is_stopped<R: Threads + Wait + Sync>(
+    rt: &R,
+    alloc: Global,
+    job: &Job,
+    limits: &[u64],
+) -> Result<bool, Fail> {
+    for workers in [1, 2, 16] {
+        for limit in limits {
+            for is_shared in [false, true] {
+                let setup = Setup {
                     workers,
-                    quantum,
-                    limit: worked.work,
+                    quantum: 64,
+                    limit: *limit,
                 };
-                let shared = Setup {
-                    is_shared: true,
-                    ..stealing
-                };
-                assert!(rt; is_whole(&rt, alloc, &job, stealing)?);
-                assert!(rt; is_whole(&rt, alloc, &job, shared)?);
+                if run(rt, alloc, job, is_shared, setup)? != Ran::Stopped {
+                    return Ok(false);
+                }
             }
         }
     }
-    Ok(())
+    Ok(true)
 }
 
 #[test]
 fn limits(rt: HostRuntime) -> Result<(), Fail> {
     let alloc = rt.alloc();
-    let leaves = LEAVES.job(alloc)?;
-    let endless = job_of(alloc, ENDLESS, b"")?;
-    for workers in [1, 2, 16] {
-        let quantum = 64;
-        for limit in 0..5 {
-            let setup = Setup {
-                is_shared: limit % 2 == 0,
-                workers,
-                quantum,
-                limit,
-            };
-            assert!(rt; is_stopped(&rt, alloc, &leaves, setup)?);
-        }
-        let setup = Setup {
-            is_shared: workers == 2,
-            workers,
-            quantum,
-            limit: 100,
-        };
-        assert!(rt; is_stopped(&rt, alloc, &endless, setup)?);
+    assert!(rt; is_stopped(&rt, alloc, &leaves().job(alloc)?, &[0, 1, 2, 3, 4])?);
+    assert!(rt; is_stopped(&rt, alloc, &endless(alloc)?, &[100])?);
+    Ok(())
+}
+
+#[test]
+fn thousand_threads(rt: HostRuntime) -> Result<(), Fail> {
+    let alloc = rt.alloc();
+    let job = crowd(alloc)?;
+    let setup = Setup {
+        workers: 4,
+        quantum: 4,
+        limit: 1000000,
+    };
+    for is_shared in [false, true] {
+        let ran = run(&rt, alloc, &job, is_shared, setup)?;
+        assert!(rt; matches!(ran, Ran::Whole(_, 1000)));
     }
     Ok(())
 }
 
 /// A run of one of the jobs, whose setup is made of the number. One in four is stopped half way.
-fn is_right<R: Threads + Wait + Sync>(
-    rt: &R,
-    alloc: Global,
-    jobs: &[Worked],
-    number: u32,
-) -> Result<bool, Fail> {
-    let Some(worked) = jobs.get((number >> 8) as usize % 7) else {
-        return Err(Fail::new("no job"));
-    };
-    let job = worked.job(alloc)?;
-    let whole = Setup {
-        is_shared: (number >> 29) % 2 == 0,
+fn is_right<R: Threads + Wait + Sync>(rt: &R, alloc: Global, number: u32) -> Result<bool, Fail> {
+    let jobs = worked_jobs();
+    let worked = &jobs[(number >> 8) as usize % 7];
+    let is_half = number >> 30 == 0;
+    let setup = Setup {
         workers: (number >> 16) % 16 + 1,
         quantum: (number >> 20) % 100 + 1,
-        limit: worked.work,
+        limit: if is_half {
+            worked.work / 2
+        } else {
+            worked.work
+        },
     };
-    if number >> 30 != 0 {
-        return is_whole(rt, alloc, &job, whole);
+    let job = worked.job(alloc)?;
+    match run(rt, alloc, &job, (number >> 29) % 2 == 0, setup)? {
+        Ran::Whole(work, _) => Ok(!is_half && work == worked.work),
+        Ran::Stopped => Ok(is_half),
+        Ran::Otherwise => Ok(false),
     }
-    let half = Setup {
-        limit: worked.work / 2,
-        ..whole
-    };
-    is_stopped(rt, alloc, &job, half)
 }
 
 #[test]
@@ -166,7 +172,7 @@ fn random_runs(rt: HostRuntime) -> Result<(), Fail> {
     let mut number: u32 = 1;
     for _ in 0..300 {
         number = number.wrapping_mul(1664525).wrapping_add(1013904223);
-        assert!(rt; is_right(&rt, alloc, &JOBS, number)?);
+        assert!(rt; is_right(&rt, alloc, number)?);
     }
     Ok(())
 }

@@ -1,7 +1,7 @@
 use denote.Exit.{no}
 use denote.Param.Send.{param_send, arg_send}
 use mir.Syntax.{named}
-use Rattle.worked_runs.proofs.Crossing.{shared_send}
+use Rattle.priority_deques.proofs.QueueCrossing.{shared_send}
 use Rattle.priority_deques.specs.contracts.ends.SharedEnd as SharedEnd
 use Rattle.worked_runs.proofs.count.CountEnd.TheSendSync as count_end
 use Rattle.worked_runs.proofs.lanes.share_counted.Goals as goal

@@ -4,7 +4,6 @@ use Rattle.std.specs.Prelude.{slice_get, ◌||◌, IfSome, IsNone}
 use Rattle.std.specs.List.{Contains}
 use Rattle.std.proofs.Math.Dec.{eqb}
 use Rattle.std.proofs.Math.ListN.{replicate, length-set}
-use Rattle.std.proofs.Math.Seq.{take-append_seam}
 use Rattle.std.proofs.lemmas.Bool.{cases_lt}
 use Rattle.std.proofs.lemmas.Bool.Decides.{eqb_tells}
 use Rattle.std.proofs.lemmas.List.{append_assoc, take-append-drop, take-append-le, length-append, length-map, length-take, length-take-le, length-replicate, get_or_append_left, get_or_push, get_or-set_same, get_or-set_other, get_or-take, get_or-replicate}

@@ -1,5 +1,5 @@
 -- What an expression gives in a scope.
-use Rattle.std.specs.Prelude.{◌≡◌, ℕ, ◌+◌, ◌-◌, ◌^◌, Bool, true, false, ◌&&◌, ◌||◌, not, if◌then◌else◌, ℤ, pos, negsuc, ◌+ℤ◌, ◌-ℤ◌, ◌*ℤ◌, int_div, int_rem, int_lt, int_le, List, [], ◌∷◌, ◌++◌, Option, Some, None, slice_get}
+use Rattle.std.specs.Prelude.{◌+◌, ◌-◌, ◌^◌, Bool, ◌&&◌, ◌||◌, not, if◌then◌else◌, ℤ, pos, negsuc, ◌+ℤ◌, ◌-ℤ◌, ◌*ℤ◌, int_div, int_rem, int_lt, int_le, List, [], ◌∷◌, Option, Some, None, slice_get}
 use Rattle.priml_syntax.specs.Tree.{Term, var, number, bool_term, unit_term, pair_term, first, second, left, right, binary, negated}
 use Rattle.priml_syntax.specs.Values.{Value', unit_value, bool_value, int_value, pair_value, left_value, right_value, Outcome', returned, faulted}
 use Rattle.priml_syntax.specs.declared.value.FaultKind.{FaultKind}

@@ -13,7 +13,7 @@ use Rattle.source_grammar.specs.RawTree.{RawType, RawTerm, RawCode, RawBody, Raw
 use Rattle.source_grammar.specs.Grammar.{token, sign, IsSeparated, IsListed, IsName, IsType, IsWritten, IsOp, IsExpr, IsPriorities, IsBlock, IsBody, IsAction, IsGiven, IsParameter, IsHead, IsRoutine, IsProcedure, IsDecls, IsMain, IsProgram}
 use Rattle.source_grammar.specs.Next.{is_at, is_end, is_sign}
 use Rattle.source_grammar.specs.Ends.{BeginsOtherwise, name_no_end, expr_no_end, parameter_no_end}
-use Rattle.source_grammar.specs.Machine.{Symbol, End, parens, brackets, variables, halt, AName, AWord, ASign, AtEnd, More, Separated, Listed, Ty, TyMid, Expr, Inside, Behind, Block, Binds, Action, CallOpen, Program, Procedure, Main, Routine, HeadOpen, Given}
+use Rattle.source_grammar.specs.Machine.{Symbol, End, parens, brackets, variables, halt, AName, AWord, ASign, AtEnd, More, Separated, Listed, Ty, TyMid, Expr, Inside, Behind, Block, Binds, Action, CallOpen, Program, Routine, HeadOpen, Given}
 use Rattle.source_grammar.specs.Machine as m
 use Rattle.source_grammar.proofs.Steps.{halt-bracketed, inside-more}
 use Rattle.source_grammar.proofs.Taken.{sign_same}

@@ -16,7 +16,7 @@ use Rattle.source_grammar.specs.Ends.{name_no_end, expr_no_end, parameter_no_end
 use Rattle.source_grammar.specs.Joined.{EndsHead}
 use Rattle.source_grammar.specs.RawTree.{block, RawBody, bind, ret_tail, if_tail, case_tail, RawAct, ret, spawn, sync, call, do_block, input, output, Declaration, priority, order, procedure, RawTree}
 use Rattle.source_grammar.specs.Grammar.{sign, IsName, IsExpr, IsPriorities, IsBlock, IsBody, IsAction, IsGiven, IsParameter, IsHead, IsRoutine, IsProcedure, IsDecls, IsMain, IsProgram}
-use Rattle.source_grammar.specs.Machine.{Symbol, parens, brackets, variables, halt, declaration_symbol, AName, AWord, ASign, AtEnd, Separated, Listed, Ty, Expr, Block, Binds, Bind, Tail, TailOf, Action, ActionOf, CallOpen, CallPriorities, Program, Priority, Order, Procedure, Main, Routine, HeadOpen, HeadVariables, HeadEnd, HeadClose, HeadGiven, Given}
+use Rattle.source_grammar.specs.Machine.{Symbol, parens, brackets, variables, halt, declaration_symbol, AName, AWord, ASign, AtEnd, Separated, Listed, Ty, Expr, Block, Binds, Bind, Tail, TailOf, Action, ActionOf, CallOpen, CallPriorities, Program, Priority, Order, Procedure, Main, Routine, HeadOpen, HeadEnd, Given}
 use Rattle.source_grammar.specs.Machine as m
 use Rattle.source_grammar.proofs.Forms.{name_made, given_made, parameter_made}
 use Rattle.source_grammar.proofs.BlockForms.{body_made, give_made, branch_made, split_made, bind_made, ret_made, sync_made, input_made, output_made, spawn_made, run_made, call_found, absent_made, present_made}

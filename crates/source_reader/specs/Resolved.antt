@@ -2,7 +2,7 @@
 use Rattle.std.specs.Prelude.{ℕ, pos, Option, List, [], ◌∷◌, ◌++◌, map, get_or, length}
 use Rattle.priml_syntax.specs.declared.prio.Prio.{Prio}
 use Rattle.priml_syntax.specs.Tree as tree
-use Rattle.priml_syntax.specs.Tree.{Type', Term, Code, Body, Act, Constraint, Signature, Routine, Declared, Tree}
+use Rattle.priml_syntax.specs.Tree.{Type', Term, Code, Body, Act, Constraint, Routine, Declared, Tree}
 use Rattle.source_grammar.specs.declared.raw.Name.{Name}
 use Rattle.source_grammar.specs.RawTree.{RawType, unit, bool, int, pair, sum, thread, RawTerm, var, number, bool_term, unit_term, pair_term, first, second, left, right, binary, negated, RawCode, block, RawBody, bind, ret_tail, if_tail, case_tail, RawAct, ret, spawn, sync, call, do_block, input, output, Parameter, RawProcedure, Declaration, priority, order, procedure, RawRoutine, RawTree}
 use Rattle.source_reader.specs.Names.{number_of, place_of, priorities, param_ids, Env, prio_of, env_of, with_vars}

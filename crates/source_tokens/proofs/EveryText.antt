@@ -7,7 +7,6 @@ use Rattle.std.proofs.lemmas.Bool.{cases_eq, cases_lt, both_ways}
 use Rattle.std.proofs.lemmas.List.{take-append-drop, length-append}
 use Rattle.priml_io.specs.Words.{value_of}
 use Rattle.source_tokens.specs.declared.token.Word.{Word}
-use Rattle.source_tokens.specs.declared.token.Word.TheVariants as w
 use Rattle.source_tokens.specs.declared.token.Sign.{Sign}
 use Rattle.source_tokens.specs.declared.token.Sign.TheVariants as s
 use Rattle.source_tokens.specs.declared.token.Kind.{Kind}

@@ -1,11 +1,10 @@
 -- What stands between tokens by the rule, and by the lexer's look at each byte.
 use Rattle.std.proofs.Common.{◌≡◌, ℕ, List, [], ◌∷◌, ◌++◌, Bool, true, false, ◌&&◌, refl, sym, ap, subst, ◌∙◌, arith}
 use Rattle.std.specs.Prelude.{IsTrue, not, ◌==◌}
-use Rattle.std.specs.List.{list_all}
 use Rattle.std.proofs.lemmas.Bool.{and_from, and_parts, not_from_false}
 use Rattle.std.proofs.lemmas.Bool.Decides.{nat_tests}
 use Rattle.source_tokens.specs.Lexemes.{is_separator, is_line, ends_line, ends_gap, Skips, here, separator, comment}
-use Rattle.source_tokens.specs.Inside.Gaps.{is_passed, keeps_comment, behind, begins}
+use Rattle.source_tokens.specs.Inside.Gaps.{is_passed, behind, begins}
 use Rattle.source_tokens.proofs.Gaps.{passed, no_comment}
 
 line_feed : (b : ℕ) → (b == 10) ≡ true → is_separator b ≡ true

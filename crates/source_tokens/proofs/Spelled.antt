@@ -8,7 +8,6 @@ use Rattle.priml_io.specs.Words.{value_of}
 use Rattle.source_tokens.specs.declared.token.Word.{Word}
 use Rattle.source_tokens.specs.declared.token.Word.TheVariants as w
 use Rattle.source_tokens.specs.declared.token.Sign.{Sign}
-use Rattle.source_tokens.specs.declared.token.Sign.TheVariants as s
 use Rattle.source_tokens.specs.declared.token.Kind.{Kind}
 use Rattle.source_tokens.specs.declared.token.Kind.TheVariants as k
 use Rattle.source_tokens.specs.Lexemes.{is_word, is_number, is_digit, is_part, begins_word, word_spelling, sign_spelling, IsLexeme, of_word, of_digits, of_sign}

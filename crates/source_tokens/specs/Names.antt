@@ -1,5 +1,5 @@
 -- The distinct names of a text, as an index set of spellings keeps them.
-use Rattle.std.specs.Prelude.{◌≡◌, ◌≢◌, ℕ, ◌^◌, ◌≤◌, List, [], ◌∷◌, ◌++◌, ◌⊎◌, length, map, slice_get, Some}
+use Rattle.std.specs.Prelude.{◌≡◌, ℕ, ◌^◌, ◌≤◌, List, [], ◌∷◌, ◌++◌, ◌⊎◌, length, map, slice_get, Some}
 use Rattle.std.specs.HashSet.{HashSet}
 use Rattle.std.specs.declared.vec.Vec.{Vec}
 use Rattle.priml_io.specs.Words.{value_of}

@@ -4,6 +4,7 @@ use Rattle.std.specs.Fmt.{decimal}
 use Rattle.std.proofs.lemmas.Bool.{lt-ltb}
 use Rattle.source_tokens.specs.declared.token.Token.{Token}
 use Rattle.source_tokens.specs.declared.token.Stop.TheVariants as stop
+use Rattle.source_tokens.specs.Lexemes.{here, separator}
 use Rattle.source_tokens.specs.Lexes.{IsLexed, Lexes, done}
 use Rattle.source_maker.specs.Text.{text_of, declaration_lines, leaf_lines, chain_lines, made_text}
 use Rattle.source_maker.proofs.Flat.{flat}
@@ -78,7 +79,7 @@ module _ (n : ℕ) where
     last_lexed total e =
         let s : length (last_text n) ≡ 8 + (digits + length (render main_end (10 ∷ []))) = size (main_last n) (render main_end (10 ∷ [])) ∙ omega arith in
         lexes total (2 * digits) (main_last n) 377 1 10 (render main_end (10 ∷ [])) (tokens (3 * digits) 385 main_end []) (omega arith) (last_checked n small) e
-        (lexes total (3 * digits) main_end 385 1 10 (10 ∷ []) [] (omega arith) end_checked (omega (arith, e, s)) (done refl refl refl refl))
+        (lexes total (3 * digits) main_end 385 1 10 (10 ∷ []) [] (omega arith) end_checked (omega (arith, e, s)) (done (separator 10 [] refl refl (here refl refl)) refl refl refl))
 
     main_lexed : (total : ℕ) → total ≡ 296 + length (start_text n) → Lexes total 0 names (start_text n) main_tokens names stop.Done
     main_lexed total e =

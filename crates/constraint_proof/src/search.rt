@@ -112,7 +112,8 @@ impl Search {
         requires start { IsValid (length order.now.names) start }
         requires search { IsSearch order.now.pairs given.now start (length order.now.names) self.old.steps.items self.old.reached.items }
         ensures search { IfOk result (λ _. IsSearch order.now.pairs given.now start (length order.now.names) self.new.steps.items self.new.reached.items) }
-        ensures closed { IfOk result (λ _. IsClosedTo start (length order.now.names) (constraints order.now.pairs given.now) self.new.reached.items (length order.now.pairs + length given.now)) }
+        ensures closed { IfOk result (λ _. IsClosedTo start (length order.now.names)
+            (constraints order.now.pairs given.now) self.new.reached.items (length order.now.pairs + length given.now)) }
     {
         let mut more = true;
         while more {
@@ -133,7 +134,8 @@ impl Search {
         requires start { IsValid (length order.now.names) start }
         requires search { IsSearch order.now.pairs given.now start (length order.now.names) self.old.steps.items self.old.reached.items }
         ensures search { IfOk result (λ _. IsSearch order.now.pairs given.now start (length order.now.names) self.new.steps.items self.new.reached.items) }
-        ensures went { IfOk result (λ found. Went start (length order.now.names) (constraints order.now.pairs given.now) (length order.now.pairs + length given.now) self.old.reached.items self.new.reached.items found) }
+        ensures went { IfOk result (λ found. Went start (length order.now.names) (constraints order.now.pairs given.now)
+            (length order.now.pairs + length given.now) self.old.reached.items self.new.reached.items found) }
     {
         let count = order.count();
         let mut found = false;
@@ -151,7 +153,8 @@ impl Search {
         requires numbers { count + most_variables ≤ most_numbers }
         requires long { length self.old.reached.items ≡ count + most_variables }
         requires few { length self.old.steps.items < 2 ^ 31 }
-        ensures { IfOk result (λ fresh. Followed start count edge self.old.steps.items self.old.reached.items self.new.steps.items self.new.reached.items fresh) }
+        ensures { IfOk result (λ fresh. Followed start count edge self.old.steps.items self.old.reached.items self.new.steps.items
+            self.new.reached.items fresh) }
     {
         if self.has(start, count, edge.right) {
             return Ok(false);

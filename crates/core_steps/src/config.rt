@@ -124,7 +124,8 @@ impl Config {
     pub fn records(&self, alloc: Global) -> Result<Option<Records>, AllocError>
         ensures slots { IfOk result (λ r. option_map (map read_record) r ≡ records_from (slots_of self.now)) }
         ensures told { IfOk result (λ r. (job : TheJob) → (is : IsConfig job self.now) → AreRecords job is.threads (option_map (map read_record) r)) }
-        ensures declared { IfOk result (λ r. IfSome r (λ rs. (job : TheJob) → IsConfig job self.now → IsChecked job → All (λ (x : TheRecord). x.prio < length job.program.names) rs)) }
+        ensures declared { IfOk result (λ r. IfSome r (λ rs. (job : TheJob) → IsConfig job self.now → IsChecked job →
+            All (λ (x : TheRecord). x.prio < length job.program.names) rs)) }
         ensures graph { IfOk result (λ r. IfSome r (λ rs. (job : TheJob) → IsConfig job self.now → IsChecked job → HasGraph job (map read_record rs))) }
     {
         match records_of(alloc, &self.threads)? {
@@ -137,7 +138,8 @@ impl Config {
     pub fn into_records(self, alloc: Global) -> Result<Option<Records>, AllocError>
         ensures slots { IfOk result (λ r. option_map (map read_record) r ≡ records_from (slots_of self)) }
         ensures told { IfOk result (λ r. (job : TheJob) → (is : IsConfig job self) → AreRecords job is.threads (option_map (map read_record) r)) }
-        ensures declared { IfOk result (λ r. IfSome r (λ rs. (job : TheJob) → IsConfig job self → IsChecked job → All (λ (x : TheRecord). x.prio < length job.program.names) rs)) }
+        ensures declared { IfOk result (λ r. IfSome r (λ rs. (job : TheJob) → IsConfig job self → IsChecked job →
+            All (λ (x : TheRecord). x.prio < length job.program.names) rs)) }
         ensures graph { IfOk result (λ r. IfSome r (λ rs. (job : TheJob) → IsConfig job self → IsChecked job → HasGraph job (map read_record rs))) }
     {
         match moved_records(alloc, self.threads)? {

@@ -72,7 +72,8 @@ impl Local {
     ) -> Result<Made, AllocError>
         requires can { CanStep (read_job job.now) (read_local self.old) None }
         requires mode { read_mode self.old.mode ≡ running }
-        requires ending { (at : ℕ) × (body_at (read_job job.now).program (read_frame self.old.top) ≡ Some (if_tail at (read_term expr.now) (read_code a.now) (read_code b.now))) }
+        requires ending { (at : ℕ) × (body_at (read_job job.now).program (read_frame self.old.top)
+            ≡ Some (if_tail at (read_term expr.now) (read_code a.now) (read_code b.now))) }
         ensures goes { IfOk result (λ m. MakesTo (read_job job.now) self.old None m self.new) }
         ensures steps { self.new.steps ≡ self.old.steps }
         ensures kept { OnErr result (read_local self.new ≡ read_local self.old) }
@@ -105,7 +106,8 @@ impl Local {
     ) -> Result<Made, AllocError>
         requires can { CanStep (read_job job.now) (read_local self.old) None }
         requires mode { read_mode self.old.mode ≡ running }
-        requires ending { (at : ℕ) × (body_at (read_job job.now).program (read_frame self.old.top) ≡ Some (case_tail at (read_term expr.now) (read_code a.now) (read_code b.now))) }
+        requires ending { (at : ℕ) × (body_at (read_job job.now).program (read_frame self.old.top)
+            ≡ Some (case_tail at (read_term expr.now) (read_code a.now) (read_code b.now))) }
         ensures goes { IfOk result (λ m. MakesTo (read_job job.now) self.old None m self.new) }
         ensures steps { self.new.steps ≡ self.old.steps }
         ensures kept { OnErr result (read_local self.new ≡ read_local self.old) }

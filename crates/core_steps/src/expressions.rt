@@ -80,7 +80,8 @@ fn collect(
     fault: &mut Option<FaultKind>,
     outcome: Outcome,
 ) -> Result<(), AllocError>
-    ensures { OnOk result (collected fault.new (map read_value values.new.items) ≡ with_last (collected fault.old (map read_value values.old.items)) (read_outcome outcome)) }
+    ensures { OnOk result (collected fault.new (map read_value values.new.items)
+        ≡ with_last (collected fault.old (map read_value values.old.items)) (read_outcome outcome)) }
 {
     match outcome {
         Outcome::Value(value) => values.push(value)?,

@@ -37,7 +37,8 @@ pub(crate) fn find<'a>(slots: &'a [Slot], path: &Path, near: usize) -> Option<&'
 // Where the slot of the path stands, or where it would.
 fn search(slots: &[Slot], path: &Path) -> Result<usize, usize>
     requires { SlotsRise (map read_slot slots.now) }
-    ensures found { IfOk result (λ i. (i < length slots.now) × HoldsAt (λ (s : TheSlot). Some (read_slot s) ≡ slot_at (map read_slot slots.now) path.now) slots.now i) }
+    ensures found { IfOk result (λ i. (i < length slots.now)
+        × HoldsAt (λ (s : TheSlot). Some (read_slot s) ≡ slot_at (map read_slot slots.now) path.now) slots.now i) }
     ensures absent { IfErr result (λ _. slot_at (map read_slot slots.now) path.now ≡ None) }
 {
     slots.binary_search_by(
@@ -137,7 +138,8 @@ fn place_of(slots: &[Slot], path: &Path) -> usize
 // Whether each slot stands before that of this path.
 fn is_last(slots: &[Slot], path: &Path) -> bool
     requires { SlotsRise (map read_slot slots.now) }
-    ensures { result ≡ true → (s : TheSlot) → s.local.path ≡ path.now → map read_slot (insert slots.now (length slots.now) s) ≡ slot_added (read_slot s) (map read_slot slots.now) }
+    ensures { result ≡ true → (s : TheSlot) → s.local.path ≡ path.now →
+        map read_slot (insert slots.now (length slots.now) s) ≡ slot_added (read_slot s) (map read_slot slots.now) }
 {
     let count = slots.len();
     if count == 0 {
@@ -194,8 +196,11 @@ pub(crate) fn step_at(
 ) -> Result<Made, AllocError>
     requires slots { AreSlots (read_job job.now) (map read_slot threads.old.items) }
     requires there { at < length threads.old.items }
-    requires told { (p : List ℕ) → StandsAt threads.old.items p at → SlotNeeds (read_job job.now) (map read_slot threads.old.items) p join (read_awaited outcome) }
-    ensures goes { IfOk result (λ m. (p : List ℕ) → StandsAt threads.old.items p at → StepsAt (read_job job.now) (map read_slot threads.old.items) p (read_awaited outcome.entry) m (map read_slot threads.new.items)) }
+    requires told { (p : List ℕ) → StandsAt threads.old.items p at →
+        SlotNeeds (read_job job.now) (map read_slot threads.old.items) p join (read_awaited outcome) }
+    ensures goes { IfOk result (λ m. (p : List ℕ) → StandsAt threads.old.items p at →
+        StepsAt (read_job job.now) (map read_slot threads.old.items) p (read_awaited outcome.entry) m
+        (map read_slot threads.new.items)) }
     ensures kept { OnErr result (map read_slot threads.new.items ≡ map read_slot threads.old.items) }
     ensures len { vec_len threads.new ≡ vec_len threads.old }
     ensures room { vec_capacity threads.new ≡ vec_capacity threads.old }

@@ -57,7 +57,8 @@ impl Slot {
 // The k-th root, which has made no step.
 pub(crate) fn root_slot(alloc: Global, job: &Job, k: u32) -> Result<Slot, AllocError>
     requires { k < length (read_job job.now).program.mains }
-    ensures root { IfOk result (λ s. option_map (λ m. record { state = root_state m k; events = [] }) (slice_get (read_job job.now).program.mains k) ≡ thread_of (read_job job.now).program (read_slot s)) }
+    ensures root { IfOk result (λ s. option_map (λ m. record { state = root_state m k; events = [] })
+        (slice_get (read_job job.now).program.mains k) ≡ thread_of (read_job job.now).program (read_slot s)) }
     ensures counted { IfOk result (λ s. IsCounted (read_slot s)) }
 {
     let local = Local::root_at(alloc, job, k)?;

@@ -13,7 +13,8 @@ use std::alloc::{AllocError, Global};
 pub(crate) fn firsts_of(alloc: Global, threads: &Vec<Thread>) -> Result<Vec<u32>, AllocError>
     requires { sum_by (λ (x : TheThread). x.vertices) threads.now.items < 2 ^ 32 }
     ensures long { IfOk result (λ v. length v.items ≡ length threads.now.items) }
-    ensures are { IfOk result (λ v. (t : ℕ) → t < length threads.now.items → get_or v.items t 0 ≡ sum_by (λ (x : TheThread). x.vertices) (take t threads.now.items)) }
+    ensures are { IfOk result (λ v. (t : ℕ) → t < length threads.now.items →
+        get_or v.items t 0 ≡ sum_by (λ (x : TheThread). x.vertices) (take t threads.now.items)) }
 {
     let mut firsts = Vec::new(alloc);
     let mut next = 0u32;
@@ -28,7 +29,8 @@ pub(crate) fn firsts_of(alloc: Global, threads: &Vec<Thread>) -> Result<Vec<u32>
 pub(crate) fn owners_of(alloc: Global, threads: &Vec<Thread>) -> Result<Vec<u32>, AllocError>
     requires { length threads.now.items < 2 ^ 32 }
     ensures long { IfOk result (λ v. length v.items ≡ sum_by (λ (x : TheThread). x.vertices) threads.now.items) }
-    ensures are { IfOk result (λ w. (parents : List (List ℕ)) (v : ℕ) → v < length w.items → IsOwner (record { threads = threads.now.items; parents = parents }) v (get_or w.items v 0)) }
+    ensures are { IfOk result (λ w. (parents : List (List ℕ)) (v : ℕ) → v < length w.items →
+        IsOwner (record { threads = threads.now.items; parents = parents }) v (get_or w.items v 0)) }
 {
     let mut owners = Vec::new(alloc);
     for t in 0..threads.len() {
@@ -101,7 +103,8 @@ fn add_child(
     requires within { All (λ p. p < length children.old.items) parents.now.items }
     requires rising { IsStrictlyIncreasing parents.now.items }
     ensures long { OnOk result (length children.new.items ≡ length children.old.items) }
-    ensures added { OnOk result ((u : ℕ) → get_or (short_lists children.new.items) u [] ≡ get_or (short_lists children.old.items) u [] ++ cond (list_any (nat_eq u) parents.now.items) (v ∷ []) []) }
+    ensures added { OnOk result ((u : ℕ) → get_or (short_lists children.new.items) u []
+        ≡ get_or (short_lists children.old.items) u [] ++ cond (list_any (nat_eq u) parents.now.items) (v ∷ []) []) }
 {
     for parent in parents {
         children[*parent as usize].push(v)?;

@@ -114,7 +114,8 @@ fn push_join(text: &mut String, graph: &Graph, vertex: u32) -> Result<(), AllocE
 // Appends the lines of the edges to a vertex, but for the one from the vertex before it.
 fn push_others(text: &mut String, graph: &Graph, vertex: u32) -> Result<(), AllocError>
     requires { vertex < vertex_total graph.now }
-    ensures { OnOk result (string_bytes text.new ≡ string_bytes text.old ++ flat_map (edge_line graph.now (codes "join") vertex) (joins_to vertex (parents_at graph.now vertex))) }
+    ensures { OnOk result (string_bytes text.new ≡ string_bytes text.old
+        ++ flat_map (edge_line graph.now (codes "join") vertex) (joins_to vertex (parents_at graph.now vertex))) }
 {
     let _count = graph.vertex_count();
     let parents = graph.parents_of(vertex);
@@ -128,7 +129,8 @@ fn push_others(text: &mut String, graph: &Graph, vertex: u32) -> Result<(), Allo
 fn push_other(text: &mut String, graph: &Graph, parent: u32, vertex: u32) -> Result<(), AllocError>
     requires from { parent < vertex_total graph.now }
     requires to { vertex < vertex_total graph.now }
-    ensures { OnOk result (string_bytes text.new ≡ string_bytes text.old ++ flat_map (edge_line graph.now (codes "join") vertex) (joins_to vertex (parent ∷ []))) }
+    ensures { OnOk result (string_bytes text.new ≡ string_bytes text.old
+        ++ flat_map (edge_line graph.now (codes "join") vertex) (joins_to vertex (parent ∷ []))) }
 {
     let _count = graph.vertex_count();
     if parent + 1 == vertex {

@@ -22,7 +22,8 @@ fn pass(
     requires watched { IsSeen graph.now marks.old.items seen.old.items }
     ensures watched { OnOk result (IsSeen graph.now marks.new.items seen.new.items) }
     ensures marked { OnOk result (marks.new.items ≡ slice_set marks.old.items (slice_index order.old.items place) true) }
-    ensures order { OnOk result (order.new.items ≡ order.old.items ++ filter (is_free graph.now marks.new.items) (children_at graph.now (slice_index order.old.items place))) }
+    ensures order { OnOk result (order.new.items ≡ order.old.items
+        ++ filter (is_free graph.now marks.new.items) (children_at graph.now (slice_index order.old.items place))) }
 {
     let vertex = order[place];
     order.reserve(graph.children_of(vertex).len())?;

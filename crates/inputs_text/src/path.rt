@@ -32,7 +32,8 @@ fn is_path(parts: &[u32], last: u32) -> bool
 }
 
 fn read_parts(alloc: Global, text: &[u8]) -> Result<Option<Vec<u32>>, AllocError>
-    ensures { IfOk result (λ r. MatchOption r ((p : List ℕ) → ¬ Pairwise IsPartText (between_dots text.now) p) (λ v. Pairwise IsPartText (between_dots text.now) v.items)) }
+    ensures { IfOk result (λ r. MatchOption r ((p : List ℕ) → ¬ Pairwise IsPartText (between_dots text.now) p)
+        (λ v. Pairwise IsPartText (between_dots text.now) v.items)) }
 {
     // a part takes two bytes, but for the last
     let mut parts = Vec::with_capacity(alloc, (text.len() / 2 + 1).min(32))?;

@@ -26,7 +26,8 @@ fn gather(top: &Top, kept: &mut Place, mut seats: Vec<BoardSeat>)
     requires rests { (kept.old.me.1 ≡ []) × (kept.old.me.0.hand.hand ≡ 0) × (0 < kept.old.me.0.seats) }
     requires others { Each (λ s. s.seat.table_id ≡ top.now.table_id) seats.items }
     ensures table { kept.new.table_id ≡ top.now.table_id }
-    ensures rests { (kept.new.me.1 ≡ []) × (kept.new.me.0.hand.hand ≡ 0) × (kept.new.me.0.seats ≡ kept.old.me.0.seats + total (λ s. (knows s).seats) seats.items) }
+    ensures rests { (kept.new.me.1 ≡ []) × (kept.new.me.0.hand.hand ≡ 0)
+        × (kept.new.me.0.seats ≡ kept.old.me.0.seats + total (λ s. (knows s).seats) seats.items) }
     ensures asked { kept.new.me.0.stop.asked_memory ≡ kept.old.me.0.stop.asked_memory + total (λ s. (knows s).stop.asked_memory) seats.items }
     ensures knows { Absorbed kept.old.me.0 kept.new.me.0 × Each (λ s. Absorbed (knows s) kept.new.me.0) seats.items }
 {

@@ -54,8 +54,10 @@ fn is_spawn(event: &Event) -> bool
 // The shard is given back. The count of live threads goes up before it, and down after it.
 fn settle(top: &Top, seat: &mut Place, shard: usize, value: Shard, spawn: bool, end: bool)
     requires table { (seat.old.table_id ≡ top.now.table_id) × (top.now.table_id.words ≡ 1072) × (top.now.table_id.slots ≡ 64) × (shard < 64) }
-    requires holds { (seat.old.me.1 ≡ (shard, None) ∷ []) × (seat.old.me.0.hand.hand ≡ shard + 1) × (seat.old.me.0.live.ahead ≡ 0) × (seat.old.me.0.live.behind ≡ 0) × (0 < seat.old.me.0.seats) }
-    requires grew { (g : Grew_by (ahead_view seat.old.me.0 (cond spawn 1 0)) shard value) × (spawns g.segment.events ≡ cond spawn 1 0) × (ends g.segment.events ≡ cond end 1 0) }
+    requires holds { (seat.old.me.1 ≡ (shard, None) ∷ []) × (seat.old.me.0.hand.hand ≡ shard + 1) × (seat.old.me.0.live.ahead ≡ 0)
+        × (seat.old.me.0.live.behind ≡ 0) × (0 < seat.old.me.0.seats) }
+    requires grew { (g : Grew_by (ahead_view seat.old.me.0 (cond spawn 1 0)) shard value)
+        × (spawns g.segment.events ≡ cond spawn 1 0) × (ends g.segment.events ≡ cond end 1 0) }
     ensures same { seat.new.table_id ≡ seat.old.table_id }
     ensures settled { seat.new.me ≡ (settled_view seat.old.me.0 value, []) }
 {

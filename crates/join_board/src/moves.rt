@@ -15,7 +15,8 @@ pub(crate) fn take(top: &Top, seat: &mut Place, shard: usize) -> Option<Shard>
     requires table { (seat.old.table_id ≡ top.now.table_id) × (top.now.table_id.words ≡ 1072) × (top.now.table_id.slots ≡ 64) × (shard < 64) }
     requires rests { (seat.old.me.1 ≡ []) × (seat.old.me.0.hand.hand ≡ 0) × (0 < seat.old.me.0.seats) }
     ensures same { seat.new.table_id ≡ seat.old.table_id }
-    ensures found { MatchOption result (seat.new.me ≡ (missed_view seat.old.me.0 shard, [])) (λ x. (seat.new.me ≡ (took_view seat.old.me.0 shard x, (shard, None) ∷ [])) × Taken seat.old.me.0 shard x) }
+    ensures found { MatchOption result (seat.new.me ≡ (missed_view seat.old.me.0 shard, []))
+        (λ x. (seat.new.me ≡ (took_view seat.old.me.0 shard x, (shard, None) ∷ [])) × Taken seat.old.me.0 shard x) }
 {
     if top.swap::<Takes>(seat, 16 * shard + 16, 1) == 0 {
         Some(top.exchange(seat, shard, None).unwrap())
@@ -49,7 +50,8 @@ pub(crate) fn give_back(top: &Top, seat: &mut Place, shard: usize, value: Shard)
 pub(crate) fn give_quiet(top: &Top, seat: &mut Place, shard: usize, value: Shard)
     requires table { (seat.old.table_id ≡ top.now.table_id) × (top.now.table_id.words ≡ 1072) × (top.now.table_id.slots ≡ 64) × (shard < 64) }
     requires holds { (seat.old.me.1 ≡ (shard, None) ∷ []) × (seat.old.me.0.hand.hand ≡ shard + 1) × Grew seat.old.me.0 shard value }
-    requires quiet { (size value ≡ size seat.old.me.0.hand.copy) × (spawned value ≡ spawned seat.old.me.0.hand.copy) × (finished value ≡ finished seat.old.me.0.hand.copy) }
+    requires quiet { (size value ≡ size seat.old.me.0.hand.copy) × (spawned value ≡ spawned seat.old.me.0.hand.copy)
+        × (finished value ≡ finished seat.old.me.0.hand.copy) }
     ensures same { seat.new.table_id ≡ seat.old.table_id }
     ensures given { seat.new.me ≡ (quiet_view seat.old.me.0 value, []) }
 {

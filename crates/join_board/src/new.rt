@@ -21,7 +21,8 @@ impl Board {
     ) -> Result<(Board, Vec<BoardSeat>), AllocError>
         requires seats { (0 < seats) × (seats ≤ 16) }
         ensures seats { IfOk result (λ b. (vec_len b.1 ≡ seats) × Each (λ s. IsSeatOf b.0 s × (knows s ≡ opened_view b.0.table.shared.key 1)) b.1.items) }
-        ensures about { IfOk result (λ b. (the_job b.0.table.shared.key ≡ read_job job.now) × (b.0.table.shared.key.opened ≡ seats) × (b.0.table.shared.key.quantum ≡ quantum) × (b.0.table.shared.key.limit ≡ limit)) }
+        ensures about { IfOk result (λ b. (the_job b.0.table.shared.key ≡ read_job job.now) × (b.0.table.shared.key.opened ≡ seats)
+            × (b.0.table.shared.key.quantum ≡ quantum) × (b.0.table.shared.key.limit ≡ limit)) }
     {
         let mut all = Vec::with_capacity(alloc, seats as usize)?;
         let (board, mut first) = Board::open(alloc, job, seats, quantum, limit)?;

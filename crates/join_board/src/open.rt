@@ -91,7 +91,8 @@ impl Board {
     ) -> Result<(Board, BoardSeat), AllocError>
         requires seats { (0 < seats) × (seats ≤ 16) }
         ensures seat { IfOk result (λ b. IsSeatOf b.0 b.1 × (knows b.1 ≡ newcomer b.0.table.shared.key)) }
-        ensures about { IfOk result (λ b. (the_job b.0.table.shared.key ≡ read_job job.now) × (b.0.table.shared.key.opened ≡ seats) × (b.0.table.shared.key.quantum ≡ quantum) × (b.0.table.shared.key.limit ≡ limit)) }
+        ensures about { IfOk result (λ b. (the_job b.0.table.shared.key ≡ read_job job.now) × (b.0.table.shared.key.opened ≡ seats)
+            × (b.0.table.shared.key.quantum ≡ quantum) × (b.0.table.shared.key.limit ≡ limit)) }
     {
         let room = Vec::with_capacity(alloc, 64)?;
         let about = About {

@@ -134,7 +134,8 @@ impl Shard {
         segment: Segment,
     ) -> Result<Vec<Task>, Segment>
         requires inside { i < length self.old }
-        requires thread { (e : Entry) → get_elem? self.old i ≡ some e → (e.log.path ≡ segment.path) × (length e.log.events ≡ segment.from) × (e.log.outcome ≡ None) }
+        requires thread { (e : Entry) → get_elem? self.old i ≡ some e →
+            (e.log.path ≡ segment.path) × (length e.log.events ≡ segment.from) × (e.log.outcome ≡ None) }
         ensures ok { IfOk result (λ ts. Appended self.old i (read_segment segment) self.new ts.items) }
         ensures handed_back { IfErr result (λ s. read_segment s ≡ read_segment segment) }
         ensures kept { OnErr result (self.new ≡ self.old) }

@@ -13,4 +13,6 @@ WordsAreAnswered = (words : List (List ℕ)) (input : List ℕ) → AreAnswered 
 
 -- and no second one
 abbrev pub AnswersAreOne : Type 0
-AnswersAreOne = (words : List (List ℕ)) (input : List ℕ) (s t : ℕ) (a b : List ℕ) → Answers words input s a → Answers words input t b → Same (FixText words) s t a b
+AnswersAreOne =
+    (words : List (List ℕ)) (input : List ℕ) (s t : ℕ) (a b : List ℕ) → Answers words input s a → Answers words input t b
+    → Same (FixText words) s t a b

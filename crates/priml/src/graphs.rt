@@ -143,7 +143,8 @@ fn report_text(
     requires declared { All (λ (r : TheRecord). r.prio < length order.now.names) records.now }
     requires sound { IsSound graph.now order.now }
     requires rows { AreRows graph.now order.now.pairs cores (steps_of schedule.now) rows.now }
-    ensures { IfOk result (λ v. v.items ≡ run_lines order.now.names (map read_record records.now) ++ response_lines graph.now order.now.names cores (length (steps_of schedule.now)) rows.now) }
+    ensures { IfOk result (λ v. v.items ≡ run_lines order.now.names (map read_record records.now)
+        ++ response_lines graph.now order.now.names cores (length (steps_of schedule.now)) rows.now) }
 {
     let mut text = run_text(alloc, records, order)?;
     let steps = schedule.steps.as_slice();

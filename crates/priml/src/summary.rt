@@ -56,7 +56,8 @@ fn push_counts(
 }
 
 fn push_threads(text: &mut String, size: u32, threads: usize) -> Result<(), AllocError>
-    ensures { OnOk result (string_bytes text.new ≡ string_bytes text.old ++ (codes "sample " ++ decimal size ++ codes " threads " ++ decimal threads ++ codes " work ")) }
+    ensures { OnOk result (string_bytes text.new ≡ string_bytes text.old
+        ++ (codes "sample " ++ decimal size ++ codes " threads " ++ decimal threads ++ codes " work ")) }
 {
     write!(text, "sample {size} threads {threads} work ")
 }

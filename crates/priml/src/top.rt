@@ -22,7 +22,9 @@ pub fn priml<R: Threads + Wait + Sync, S: Source, K: Sink, G: Gate>(
     sink: &mut K,
     gate: &G,
 ) -> u8
-    ensures ends { Ends (words_of words.now) (source_run (S.left source.old) (S.left source.new) (S.faults source.old) (S.faults source.new)) (sink_run (K.written sink.old) (K.written sink.new) (K.faults sink.old) (K.faults sink.new)) result }
+    ensures ends { Ends (words_of words.now)
+        (source_run (S.left source.old) (S.left source.new) (S.faults source.old) (S.faults source.new))
+        (sink_run (K.written sink.old) (K.written sink.new) (K.faults sink.old) (K.faults sink.new)) result }
     ensures unread { (NeedSource (words_of words.now) → ⊥) → source.new ≡ source.old }
 {
     match priml_still(alloc, words, source, sink) {

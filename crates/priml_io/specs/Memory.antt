@@ -46,7 +46,11 @@ told s = if s.beyond == 0 then Some s.kept else None
 
 -- the sink after a call that took these bytes: it keeps what its room holds, and counts the rest
 abbrev pub sink_after : MemorySink → List ℕ → MemorySink
-sink_after s bs = record s { kept = take s.room (s.kept ++ bs); beyond = min (s.beyond + (length (s.kept ++ bs) - s.room)) (2 ^ 64 - 1); script = went_well s.script }
+sink_after s bs = record s {
+  kept = take s.room (s.kept ++ bs);
+  beyond = min (s.beyond + (length (s.kept ++ bs) - s.room)) (2 ^ 64 - 1);
+  script = went_well s.script;
+}
 
 -- the sink after a call that failed
 abbrev pub sink_failed : MemorySink → MemorySink

@@ -112,9 +112,11 @@ ComesAgain name before line = IsHeading name line × Stands name before
 -- the first line that begins no new section of a known name, and what is wrong with it
 abbrev pub HasSectionFault : List ℕ → SectionFault → Type 0
 HasSectionFault input (fault.UnknownSection n) =
-    (before : List (List ℕ)) × (line : List ℕ) × Comes input n before line × (¬ IsHeading (codes "inputs") line) × (¬ IsHeading (codes "schedule") line)
+    (before : List (List ℕ)) × (line : List ℕ) × Comes input n before line
+    × (¬ IsHeading (codes "inputs") line) × (¬ IsHeading (codes "schedule") line)
 HasSectionFault input (fault.TwiceSection n) =
-    (before : List (List ℕ)) × (line : List ℕ) × Comes input n before line × (ComesAgain (codes "inputs") before line ⊎ ComesAgain (codes "schedule") before line)
+    (before : List (List ℕ)) × (line : List ℕ) × Comes input n before line
+    × (ComesAgain (codes "inputs") before line ⊎ ComesAgain (codes "schedule") before line)
 
 -- an input is cut in one way, or it has one fault, and not both
 pub record CutsOneWay (input : List ℕ) : Type 0 where

@@ -109,7 +109,9 @@ AreNumbers k words (most ∷ bs) (n ∷ ns) = IsNumber (word_at words k) most n 
 -- the first word from the k-th on that is no number within its bound, and what is wrong with it
 abbrev pub HasFirstFault : ℕ → List (List ℕ) → List ℕ → WordsFault → Type 0
 HasFirstFault k words [] f = ⊥
-HasFirstFault k words (most ∷ bs) f = HasFault (word_at words k) most k f ⊎ (IsNumber (word_at words k) most (value_of (word_at words k)) × HasFirstFault (k + 1) words bs f)
+HasFirstFault k words (most ∷ bs) f =
+    HasFault (word_at words k) most k f
+    ⊎ (IsNumber (word_at words k) most (value_of (word_at words k)) × HasFirstFault (k + 1) words bs f)
 
 -- the words are a name of the table, and as many words after it as it takes numbers
 abbrev pub IsCommandLine : Name → List (List ℕ) → Type 0

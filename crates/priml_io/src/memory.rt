@@ -149,7 +149,13 @@ impl MemSink {
         failing: &[u64],
     ) -> Result<MemSink, AllocError>
         requires { 0 < width }
-        ensures { IfOk result (λ s. s ≡ record { kept = []; room = room; beyond = 0; width = width; script = record { failing = failing.now; calls = 0; faults = 0 } }) }
+        ensures { IfOk result (λ s. s ≡ record {
+          kept = [];
+          room = room;
+          beyond = 0;
+          width = width;
+          script = record { failing = failing.now; calls = 0; faults = 0 };
+        }) }
     {
         let kept = Vec::with_capacity(alloc, room)?;
         let calls = Calls::new(alloc, failing)?;

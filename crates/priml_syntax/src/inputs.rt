@@ -78,7 +78,8 @@ impl Inputs {
 // Where the list of the path stands, or where it would.
 fn search(lists: &[(Path, Vec<i64>)], path: &Path) -> Result<usize, usize>
     requires { RiseByPath (read_lists lists.now) }
-    ensures found { IfOk result (λ i. (i < length lists.now) × HoldsAt (λ (e : List ℕ × TheVec ℤ TheGlobal). e.1.items ≡ inputs_of (read_lists lists.now) path.now) lists.now i) }
+    ensures found { IfOk result (λ i. (i < length lists.now)
+        × HoldsAt (λ (e : List ℕ × TheVec ℤ TheGlobal). e.1.items ≡ inputs_of (read_lists lists.now) path.now) lists.now i) }
     ensures absent { IfErr result (λ _. inputs_of (read_lists lists.now) path.now ≡ []) }
 {
     lists.binary_search_by(

@@ -16,7 +16,9 @@ AreOfLane job k = AllByRecursion (λ (d : DequeBook). (d.job ≡ job) × (d.lane
 
 -- an end of the job: it has deques of each lane, lane by lane, and there are at most 16 lanes
 abbrev pub IsEndOf : WithInputs → List (List DequeBook) → Type 0
-IsEndOf job books = ((length books ≡ lane_count job) × (lane_count job ≤ most_names)) × ((k : ℕ) (ds : List DequeBook) → slice_get books k ≡ Some ds → AreOfLane job k ds)
+IsEndOf job books =
+    ((length books ≡ lane_count job) × (lane_count job ≤ most_names))
+    × ((k : ℕ) (ds : List DequeBook) → slice_get books k ≡ Some ds → AreOfLane job k ds)
 
 abbrev pub fresh_book : WithInputs → ℕ → DequeBook
 fresh_book job lane = record { job = job; lane = lane; put = []; taken = []; misses = 0; refusals = 0 }

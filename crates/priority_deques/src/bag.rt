@@ -32,7 +32,8 @@ pub trait OwnBag<X>: Bag<X> {
 
 /// The first task that one of the bags gives, which are tried in their order.
 pub(crate) fn remove_any<X, B: Bag<X>>(bags: &mut Vec<B>, ctx: &X) -> Option<Task>
-    ensures { MatchOption result (AllZip Missed (map B.book bags.old.items) (map B.book bags.new.items)) (λ t. TookOne (read_task t) (map B.book bags.old.items) (map B.book bags.new.items)) }
+    ensures { MatchOption result (AllZip Missed (map B.book bags.old.items) (map B.book bags.new.items))
+        (λ t. TookOne (read_task t) (map B.book bags.old.items) (map B.book bags.new.items)) }
 {
     for i in 0..bags.len() {
         if let Some(task) = bags[i].remove(ctx) {

@@ -29,7 +29,8 @@ pub(crate) fn lone_lanes<O: Opens, B: Drop>(
     table: &LaneTable,
 ) -> Result<Vec<LaneDeques<O, B>>, AllocError>
     requires { table.now ≡ job.now }
-    ensures { IfOk result (λ v. (theirs : B → DequeBook) → IsOpened job.now 1 (end_books O.own theirs v.items) × IsEndOf table.now (end_books O.own theirs v.items)) }
+    ensures { IfOk result (λ v. (theirs : B → DequeBook) →
+        IsOpened job.now 1 (end_books O.own theirs v.items) × IsEndOf table.now (end_books O.own theirs v.items)) }
 {
     let mut lanes = Vec::new(alloc);
     for lane in 0..table.count() {

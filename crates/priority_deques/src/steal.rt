@@ -106,7 +106,8 @@ impl StealEnd {
         requires lane { lane < length self.old.lanes.items }
         requires others { AreOfLane (steal_job self.old) lane (map their_book others.items) }
         ensures job { steal_job self.new ≡ steal_job self.old }
-        ensures books { (d : TheDeques TheOwn TheTheirs) → slice_get self.old.lanes.items lane ≡ Some d → steal_books self.new ≡ slice_set (steal_books self.old) lane (own_book d.own ∷ map their_book others.items) }
+        ensures books { (d : TheDeques TheOwn TheTheirs) → slice_get self.old.lanes.items lane ≡ Some d →
+            steal_books self.new ≡ slice_set (steal_books self.old) lane (own_book d.own ∷ map their_book others.items) }
     {
         self.lanes[lane].others = others;
     }

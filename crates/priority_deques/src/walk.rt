@@ -19,7 +19,8 @@ impl<O, B> LaneDeques<O, B> {
     where
         O: OwnBag<X>,
         B: Bag<X>,
-        ensures { MatchOption result (AllZip Missed (lane_books O.book B.book self.old) (lane_books O.book B.book self.new)) (λ t. TookOne (read_task t) (lane_books O.book B.book self.old) (lane_books O.book B.book self.new)) }
+        ensures { MatchOption result (AllZip Missed (lane_books O.book B.book self.old) (lane_books O.book B.book self.new))
+            (λ t. TookOne (read_task t) (lane_books O.book B.book self.old) (lane_books O.book B.book self.new)) }
     {
         if let Some(task) = self.own.remove(ctx) {
             return Some(task);
@@ -37,7 +38,9 @@ pub fn take_from<X, O: OwnBag<X>, B: Bag<X>>(
     ctx: &X,
 ) -> Option<Pick>
     requires { length lanes.old.items < 2 ^ 32 }
-    ensures { MatchOption result (NoneTaken (end_books O.book B.book lanes.old.items) (end_books O.book B.book lanes.new.items)) (λ p. ChangedAt (AllZip Missed) (TookOne (read_task p.task)) p.lane (end_books O.book B.book lanes.old.items) (end_books O.book B.book lanes.new.items)) }
+    ensures { MatchOption result (NoneTaken (end_books O.book B.book lanes.old.items) (end_books O.book B.book lanes.new.items))
+        (λ p. ChangedAt (AllZip Missed) (TookOne (read_task p.task)) p.lane (end_books O.book B.book lanes.old.items)
+        (end_books O.book B.book lanes.new.items)) }
 {
     for lane in 0..lanes.len() {
         if let Some(task) = lanes[lane].take(ctx) {
@@ -59,8 +62,10 @@ pub fn put_into<X, O: OwnBag<X>, B: Bag<X>>(
 ) -> Result<(), (Task, AllocError)>
     requires lane { lane < length lanes.old.items }
     requires fits { (d : TheDeques O B) → slice_get lanes.old.items lane ≡ Some d → Fits (read_job (O.book d.own).job) (O.book d.own).lane (read_task task) }
-    ensures put { OnOk result (ChangedAt AsBefore (ChangedAt AsBefore (Got (read_task task)) 0) lane (end_books O.book B.book lanes.old.items) (end_books O.book B.book lanes.new.items)) }
-    ensures refused { IfErr result (λ e. (e.0 ≡ task) × ChangedAt AsBefore (ChangedAt AsBefore Refused 0) lane (end_books O.book B.book lanes.old.items) (end_books O.book B.book lanes.new.items)) }
+    ensures put { OnOk result (ChangedAt AsBefore (ChangedAt AsBefore (Got (read_task task)) 0) lane
+        (end_books O.book B.book lanes.old.items) (end_books O.book B.book lanes.new.items)) }
+    ensures refused { IfErr result (λ e. (e.0 ≡ task) × ChangedAt AsBefore (ChangedAt AsBefore Refused 0) lane
+        (end_books O.book B.book lanes.old.items) (end_books O.book B.book lanes.new.items)) }
 {
     match lanes[lane as usize].own.add(ctx, task) {
         Ok(()) => Ok(()),

@@ -28,7 +28,8 @@ pub fn judge(
     requires vertices { All (λ s. All (λ v. v < vertex_total graph.now) s) (steps_of schedule.now) }
     requires priorities { All (λ (t : TheThread). t.priority < length order.now.names) graph.now.threads }
     ensures verdict { IfOk result (IsVerdict graph.now (IsVertexBelow graph.now order.now.pairs) cores (steps_of schedule.now)) }
-    ensures only { IfOk result (λ v. (other : TheVerdict) → IsVerdict graph.now (IsVertexBelow graph.now order.now.pairs) cores (steps_of schedule.now) other → other ≡ v) }
+    ensures only { IfOk result (λ v. (other : TheVerdict) →
+        IsVerdict graph.now (IsVertexBelow graph.now order.now.pairs) cores (steps_of schedule.now) other → other ≡ v) }
 {
     let count = graph.vertex_count();
     let mut stood = vec![in alloc; false; count as usize]?;

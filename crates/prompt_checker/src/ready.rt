@@ -32,7 +32,8 @@ pub(crate) fn add_ready(
     requires vertices { All (λ v. v < vertex_total graph.now) vertices.now.items }
     requires priorities { All (λ (t : TheThread). t.priority < length ready.old.items) graph.now.threads }
     ensures long { length ready.new.items ≡ length ready.old.items }
-    ensures held { OnOk result ((p v : ℕ) → (holds ready.new.items p v ≡ true) ↔ ((holds ready.old.items p v ≡ true) ⊎ (Contains vertices.now.items v × (vertex_priority graph.now v ≡ p)))) }
+    ensures held { OnOk result ((p v : ℕ) → (holds ready.new.items p v ≡ true)
+        ↔ ((holds ready.old.items p v ≡ true) ⊎ (Contains vertices.now.items v × (vertex_priority graph.now v ≡ p)))) }
 {
     for vertex in vertices {
         let p = graph.priority_of_vertex(*vertex) as usize;
@@ -46,7 +47,8 @@ fn take_out(graph: &Graph, ready: &mut Vec<BTreeSet<u32>>, line: &Vec<u32>)
     requires vertices { All (λ v. v < vertex_total graph.now) line.now.items }
     requires priorities { All (λ (t : TheThread). t.priority < length ready.old.items) graph.now.threads }
     ensures long { length ready.new.items ≡ length ready.old.items }
-    ensures held { (p v : ℕ) → (holds ready.new.items p v ≡ true) ↔ ((holds ready.old.items p v ≡ true) × ((Contains line.now.items v × (vertex_priority graph.now v ≡ p)) → Prim.⊥)) }
+    ensures held { (p v : ℕ) → (holds ready.new.items p v ≡ true)
+        ↔ ((holds ready.old.items p v ≡ true) × ((Contains line.now.items v × (vertex_priority graph.now v ≡ p)) → Prim.⊥)) }
 {
     for vertex in line {
         let p = graph.priority_of_vertex(*vertex) as usize;
@@ -67,7 +69,8 @@ pub(crate) fn unfair(
     requires priorities { All (λ (t : TheThread). t.priority < length order.now.names) graph.now.threads }
     requires sets { length ready.old.items ≡ length order.now.names }
     ensures long { length ready.new.items ≡ length ready.old.items }
-    ensures held { (p v : ℕ) → (holds ready.new.items p v ≡ true) ↔ ((holds ready.old.items p v ≡ true) × ((Contains line.now.items v × (vertex_priority graph.now v ≡ p)) → Prim.⊥)) }
+    ensures held { (p v : ℕ) → (holds ready.new.items p v ≡ true)
+        ↔ ((holds ready.old.items p v ≡ true) × ((Contains line.now.items v × (vertex_priority graph.now v ≡ p)) → Prim.⊥)) }
     ensures flaw { IsUnfair graph.now order.now.pairs cores ready.new.items line.now.items result }
 {
     take_out(graph, ready, line);

@@ -29,7 +29,8 @@ fn lane_of(graph: &Graph, order: &Order, vertex: u32) -> u32
     requires priorities { All (λ (t : TheThread). t.priority < length order.now.names) graph.now.threads }
     ensures is { HasLane order.now.pairs (length order.now.names) (vertex_priority graph.now vertex) result }
     ensures only { (k : ℕ) → HasLane order.now.pairs (length order.now.names) (vertex_priority graph.now vertex) k → k ≡ result }
-    ensures above { (b k : ℕ) → HasLane order.now.pairs (length order.now.names) b k → IsBelow order.now.pairs (vertex_priority graph.now vertex) b → k < result }
+    ensures above { (b k : ℕ) → HasLane order.now.pairs (length order.now.names) b k →
+        IsBelow order.now.pairs (vertex_priority graph.now vertex) b → k < result }
 {
     order.lane(graph.priority_of_vertex(vertex))
 }

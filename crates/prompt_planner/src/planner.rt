@@ -40,7 +40,8 @@ fn add_ready(
     vertices: &Vec<u32>,
 ) -> Result<(), AllocError>
     requires { All (λ v. v < length lanes.now) vertices.now.items }
-    ensures { OnOk result ((k : ℕ × ℕ) → Contains ready.new.keys k ↔ (Contains ready.old.keys k ⊎ (Contains vertices.now.items k.1 × (k.0 ≡ slice_index lanes.now k.1)))) }
+    ensures { OnOk result ((k : ℕ × ℕ) → Contains ready.new.keys k
+        ↔ (Contains ready.old.keys k ⊎ (Contains vertices.now.items k.1 × (k.0 ≡ slice_index lanes.now k.1)))) }
 {
     for vertex in vertices {
         ready.insert((lanes[*vertex as usize], *vertex))?;
@@ -60,7 +61,8 @@ pub fn plan_by_lanes(
     requires lanes { length lanes.now ≡ vertex_total graph.now }
     ensures plan { IfOk result (λ s. IsPlan graph.now lanes.now cores (steps_of s)) }
     ensures unique { IfOk result (λ s. (other : List (List ℕ)) → IsPlan graph.now lanes.now cores other → other ≡ steps_of s) }
-    ensures prompt { IfOk result (λ s. (pairs : List (ℕ × ℕ)) → IsAcyclic graph.now → LanesFit graph.now pairs lanes.now → IsPrompt graph.now (IsVertexBelow graph.now pairs) cores (steps_of s)) }
+    ensures prompt { IfOk result (λ s. (pairs : List (ℕ × ℕ)) → IsAcyclic graph.now → LanesFit graph.now pairs lanes.now →
+        IsPrompt graph.now (IsVertexBelow graph.now pairs) cores (steps_of s)) }
 {
     let _count = graph.vertex_count();
     let mut frontier = Frontier::start(alloc, graph)?;
@@ -85,7 +87,8 @@ pub fn plan(alloc: Global, graph: &Graph, order: &Order, cores: u32) -> Result<S
     requires cores { 1 ≤ cores }
     requires priorities { All (λ (t : TheThread). t.priority < length order.now.names) graph.now.threads }
     ensures plan { IfOk result (λ s. IsCanonical graph.now order.now.pairs (length order.now.names) cores (steps_of s)) }
-    ensures unique { IfOk result (λ s. (other : List (List ℕ)) → IsCanonical graph.now order.now.pairs (length order.now.names) cores other → other ≡ steps_of s) }
+    ensures unique { IfOk result (λ s. (other : List (List ℕ)) →
+        IsCanonical graph.now order.now.pairs (length order.now.names) cores other → other ≡ steps_of s) }
     ensures prompt { IfOk result (λ s. IsPrompt graph.now (IsVertexBelow graph.now order.now.pairs) cores (steps_of s)) }
     ensures within { IfOk result (λ s. All (λ step. All (λ v. v < vertex_total graph.now) step) (steps_of s)) }
 {

@@ -37,7 +37,8 @@ pub fn response_text(
 
 // Appends the first two lines.
 fn push_head(text: &mut String, cores: u32, steps: u64) -> Result<(), AllocError>
-    ensures { OnOk result (string_bytes text.new ≡ string_bytes text.old ++ (codes "cores " ++ decimal cores ++ 10 ∷ []) ++ (codes "steps " ++ decimal steps ++ 10 ∷ [])) }
+    ensures { OnOk result (string_bytes text.new ≡ string_bytes text.old ++ (codes "cores " ++ decimal cores ++ 10 ∷ [])
+        ++ (codes "steps " ++ decimal steps ++ 10 ∷ [])) }
 {
     writeln!(text, "cores {cores}")?;
     writeln!(text, "steps {steps}")
@@ -56,7 +57,9 @@ fn push_row(text: &mut String, graph: &Graph, order: &Order, row: &Row) -> Resul
 
 // Appends what stands after a row's path.
 fn push_numbers(text: &mut String, name: &str, row: &Row) -> Result<(), AllocError>
-    ensures { OnOk result (string_bytes text.new ≡ string_bytes text.old ++ (codes " " ++ name.now ++ codes " time " ++ decimal row.now.response ++ codes " work " ++ decimal row.now.work ++ codes " span " ++ decimal row.now.span ++ codes " bound " ++ decimal row.now.bound ++ 10 ∷ [])) }
+    ensures { OnOk result (string_bytes text.new ≡ string_bytes text.old
+        ++ (codes " " ++ name.now ++ codes " time " ++ decimal row.now.response ++ codes " work " ++ decimal row.now.work
+        ++ codes " span " ++ decimal row.now.span ++ codes " bound " ++ decimal row.now.bound ++ 10 ∷ [])) }
 {
     write!(text, " {name} time {} work {}", row.response, row.work)?;
     writeln!(text, " span {} bound {}", row.span, row.bound)

@@ -104,7 +104,8 @@ fn step(
     requires serial { (n : ℕ) × Serial (read_job job.now) n (slots_of config.old) active.old.items }
     requires some { 0 < vec_len active.old }
     ensures config { IsConfig (read_job job.now) config.new }
-    ensures serial { OnOk result ((n : ℕ) → Serial (read_job job.now) n (slots_of config.old) active.old.items → Serial (read_job job.now) (n + 1) (slots_of config.new) active.new.items) }
+    ensures serial { OnOk result ((n : ℕ) → Serial (read_job job.now) n (slots_of config.old) active.old.items →
+        Serial (read_job job.now) (n + 1) (slots_of config.new) active.new.items) }
 {
     match active.pop() {
         Some(top) => {

@@ -28,7 +28,8 @@ const SCOPE: usize = 32;
 pub fn block_of(alloc: Global, names: &Names, scope: &mut Vec<usize>, raw: &RawBlock) -> Made<Block>
     requires room { length scope.old.items ≤ 32 }
     requires fits { CodeFits (read_block raw.now) }
-    ensures gives { IsMade (code_faults (read_block raw.now) (env_in names.now) scope.old.items) (code_meant (read_block raw.now) (env_in names.now) scope.old.items) read_code result }
+    ensures gives { IsMade (code_faults (read_block raw.now) (env_in names.now) scope.old.items)
+        (code_meant (read_block raw.now) (env_in names.now) scope.old.items) read_code result }
     ensures scope { OnOk result (scope.new.items ≡ scope.old.items) }
 {
     let outer = scope.len();
@@ -53,7 +54,9 @@ pub fn block_of(alloc: Global, names: &Names, scope: &mut Vec<usize>, raw: &RawB
 fn bound(alloc: Global, names: &Names, scope: &mut Vec<usize>, raw: &RawBind) -> Made<Action>
     requires room { length scope.old.items ≤ 32 }
     requires fits { ActFits (read_action raw.now.action) }
-    ensures gives { IsMade (scope_faults raw.now.name scope.old.items ++ act_faults (read_action raw.now.action) (env_in names.now) scope.old.items) (act_meant (read_action raw.now.action) (env_in names.now) scope.old.items) read_act result }
+    ensures gives { IsMade (scope_faults raw.now.name scope.old.items
+        ++ act_faults (read_action raw.now.action) (env_in names.now) scope.old.items)
+        (act_meant (read_action raw.now.action) (env_in names.now) scope.old.items) read_act result }
     ensures scope { OnOk result (scope.new.items ≡ scope.old.items ++ raw.now.name.id ∷ []) }
     ensures room { OnOk result (length scope.new.items ≤ 32) }
 {
@@ -71,7 +74,8 @@ fn bound(alloc: Global, names: &Names, scope: &mut Vec<usize>, raw: &RawBind) ->
 fn action_of(alloc: Global, names: &Names, scope: &mut Vec<usize>, raw: &RawAction) -> Made<Action>
     requires room { length scope.old.items ≤ 32 }
     requires fits { ActFits (read_action raw.now) }
-    ensures gives { IsMade (act_faults (read_action raw.now) (env_in names.now) scope.old.items) (act_meant (read_action raw.now) (env_in names.now) scope.old.items) read_act result }
+    ensures gives { IsMade (act_faults (read_action raw.now) (env_in names.now) scope.old.items)
+        (act_meant (read_action raw.now) (env_in names.now) scope.old.items) read_act result }
     ensures scope { OnOk result (scope.new.items ≡ scope.old.items) }
 {
     match raw {
@@ -101,7 +105,8 @@ fn action_of(alloc: Global, names: &Names, scope: &mut Vec<usize>, raw: &RawActi
 fn ending(alloc: Global, names: &Names, scope: &mut Vec<usize>, raw: &RawTail) -> Made<Tail>
     requires room { length scope.old.items ≤ 32 }
     requires fits { BodyFits (read_raw_tail raw.now.form raw.now.at) }
-    ensures gives { IsMade (body_faults (read_raw_tail raw.now.form raw.now.at) (env_in names.now) scope.old.items) (body_meant (read_raw_tail raw.now.form raw.now.at) (env_in names.now) scope.old.items) (λ t. read_tail t.form t.at) result }
+    ensures gives { IsMade (body_faults (read_raw_tail raw.now.form raw.now.at) (env_in names.now) scope.old.items)
+        (body_meant (read_raw_tail raw.now.form raw.now.at) (env_in names.now) scope.old.items) (λ t. read_tail t.form t.at) result }
     ensures scope { OnOk result (scope.new.items ≡ scope.old.items) }
 {
     let form = form_of(alloc, names, scope, raw.at, &raw.form)?;
@@ -119,7 +124,8 @@ fn form_of(
 ) -> Made<TailForm>
     requires room { length scope.old.items ≤ 32 }
     requires fits { BodyFits (read_raw_tail raw.now at) }
-    ensures gives { IsMade (body_faults (read_raw_tail raw.now at) (env_in names.now) scope.old.items) (body_meant (read_raw_tail raw.now at) (env_in names.now) scope.old.items) (λ f. read_tail f at) result }
+    ensures gives { IsMade (body_faults (read_raw_tail raw.now at) (env_in names.now) scope.old.items)
+        (body_meant (read_raw_tail raw.now at) (env_in names.now) scope.old.items) (λ f. read_tail f at) result }
     ensures scope { OnOk result (scope.new.items ≡ scope.old.items) }
 {
     match raw {
@@ -150,7 +156,9 @@ fn branch(
 ) -> Made<Box<Block>>
     requires room { length scope.old.items ≤ 32 }
     requires fits { CodeFits (read_block raw.now) }
-    ensures gives { IsMade (scope_faults inside.now scope.old.items ++ code_faults (read_block raw.now) (env_in names.now) (scope.old.items ++ inside.now.id ∷ [])) (code_meant (read_block raw.now) (env_in names.now) (scope.old.items ++ inside.now.id ∷ [])) (λ b. read_code b.value) result }
+    ensures gives { IsMade (scope_faults inside.now scope.old.items
+        ++ code_faults (read_block raw.now) (env_in names.now) (scope.old.items ++ inside.now.id ∷ []))
+        (code_meant (read_block raw.now) (env_in names.now) (scope.old.items ++ inside.now.id ∷ [])) (λ b. read_code b.value) result }
     ensures scope { OnOk result (scope.new.items ≡ scope.old.items) }
 {
     let Name { at, id } = *inside;
@@ -173,7 +181,8 @@ fn boxed_block(
 ) -> Made<Box<Block>>
     requires room { length scope.old.items ≤ 32 }
     requires fits { CodeFits (read_block raw.now) }
-    ensures gives { IsMade (code_faults (read_block raw.now) (env_in names.now) scope.old.items) (code_meant (read_block raw.now) (env_in names.now) scope.old.items) (λ b. read_code b.value) result }
+    ensures gives { IsMade (code_faults (read_block raw.now) (env_in names.now) scope.old.items)
+        (code_meant (read_block raw.now) (env_in names.now) scope.old.items) (λ b. read_code b.value) result }
     ensures scope { OnOk result (scope.new.items ≡ scope.old.items) }
 {
     let block = block_of(alloc, names, scope, raw)?;
@@ -191,7 +200,10 @@ fn call(
 ) -> Made<Action>
     requires room { length scope.now ≤ 32 }
     requires fits { TermsFit (map read_expr arguments.now) }
-    ensures { IsMade (proc_faults (env_in names.now) called.now ++ (prios_faults (env_in names.now) given.now ++ terms_faults (env_in names.now) (map read_expr arguments.now) scope.now)) (tree.call (number_of ((env_in names.now).procs called.now.id)) (prios_meant (env_in names.now) given.now) (terms_meant (env_in names.now) (map read_expr arguments.now) scope.now)) read_act result }
+    ensures { IsMade (proc_faults (env_in names.now) called.now
+        ++ (prios_faults (env_in names.now) given.now ++ terms_faults (env_in names.now) (map read_expr arguments.now) scope.now))
+        (tree.call (number_of ((env_in names.now).procs called.now.id)) (prios_meant (env_in names.now) given.now)
+        (terms_meant (env_in names.now) (map read_expr arguments.now) scope.now)) read_act result }
 {
     let number = procedure(names, called)?;
     let given = priorities(alloc, names, given)?;

@@ -104,12 +104,15 @@ fn declare(
 ) -> Result<(), ResolveStop>
     requires none { names.old.vars.items ≡ [] }
     requires fits { BodiesFit (read_decl decl.now ∷ []) }
-    ensures faults { Finds (declared_faults (env_in names.old) (read_decl decl.now) all.old.priorities.items (length all.old.pairs.items) all.old.called.items) result }
+    ensures faults { Finds (declared_faults (env_in names.old) (read_decl decl.now) all.old.priorities.items
+        (length all.old.pairs.items) all.old.called.items) result }
     ensures names { OnOk result (env_in names.new ≡ env_in names.old) }
     ensures priorities { OnOk result (all.new.priorities.items ≡ all.old.priorities.items ++ priorities (read_decl decl.now ∷ [])) }
     ensures called { OnOk result (all.new.called.items ≡ all.old.called.items ++ procedures (read_decl decl.now ∷ [])) }
-    ensures pairs { OnOk result (map read_pair all.new.pairs.items ≡ map read_pair all.old.pairs.items ++ pairs_meant (env_in names.old).prios (read_decl decl.now ∷ [])) }
-    ensures procs { OnOk result (map read_proc all.new.procs.items ≡ map read_proc all.old.procs.items ++ procs_meant (env_in names.old) (read_decl decl.now ∷ [])) }
+    ensures pairs { OnOk result (map read_pair all.new.pairs.items ≡ map read_pair all.old.pairs.items
+        ++ pairs_meant (env_in names.old).prios (read_decl decl.now ∷ [])) }
+    ensures procs { OnOk result (map read_proc all.new.procs.items ≡ map read_proc all.old.procs.items
+        ++ procs_meant (env_in names.old) (read_decl decl.now ∷ [])) }
 {
     match decl {
         RawDecl::Priority(name) => once(&mut all.priorities, name, PRIORITIES, What::Priorities),
@@ -131,8 +134,10 @@ fn pair(
     high: &Name,
 ) -> Result<(), ResolveStop>
     requires none { names.now.vars.items ≡ [] }
-    ensures faults { Finds (room_faults at (length pairs.old.items) 256 what.Pairs ++ (prio_faults (env_in names.now) low.now ++ prio_faults (env_in names.now) high.now)) result }
-    ensures pairs { OnOk result (pairs.new.items ≡ pairs.old.items ++ (at, number_of ((env_in names.now).prios low.now.id), number_of ((env_in names.now).prios high.now.id)) ∷ []) }
+    ensures faults { Finds (room_faults at (length pairs.old.items) 256 what.Pairs
+        ++ (prio_faults (env_in names.now) low.now ++ prio_faults (env_in names.now) high.now)) result }
+    ensures pairs { OnOk result (pairs.new.items ≡ pairs.old.items
+        ++ (at, number_of ((env_in names.now).prios low.now.id), number_of ((env_in names.now).prios high.now.id)) ∷ []) }
 {
     if pairs.len() >= PAIRS {
         return Err(ResolveStop::Fault(Fault::TooMany(at, What::Pairs)));

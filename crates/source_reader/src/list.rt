@@ -37,7 +37,8 @@ pub fn expressions(
 ) -> Result<Vec<Expr>, ResolveStop>
     requires room { length scope.now ≤ 32 }
     requires fits { TermsFit (map read_expr list.now) }
-    ensures { IsMade (terms_faults (env_in names.now) (map read_expr list.now) scope.now) (terms_meant (env_in names.now) (map read_expr list.now) scope.now) (λ v. map read_term v.items) result }
+    ensures { IsMade (terms_faults (env_in names.now) (map read_expr list.now) scope.now)
+        (terms_meant (env_in names.now) (map read_expr list.now) scope.now) (λ v. map read_term v.items) result }
 {
     let mut all = Vec::with_capacity(alloc, list.len())?;
     for raw in list {

@@ -51,7 +51,8 @@ pub fn main_of(alloc: Global, names: &Names, raw: &RawMain) -> Result<Proc, Reso
 pub fn procedure_of(alloc: Global, names: &mut Names, raw: &RawProc) -> Result<Proc, ResolveStop>
     requires none { names.old.vars.items ≡ [] }
     requires fits { CodeFits (read_raw_proc raw.now).routine.body }
-    ensures gives { IsMade (procedure_faults (env_in names.old) (read_raw_proc raw.now)) (proc_meant (env_in names.old) (read_raw_proc raw.now)) read_proc result }
+    ensures gives { IsMade (procedure_faults (env_in names.old) (read_raw_proc raw.now))
+        (proc_meant (env_in names.old) (read_raw_proc raw.now)) read_proc result }
     ensures names { OnOk result (env_in names.new ≡ env_in names.old) }
 {
     names.vars = variables(alloc, &raw.vars)?;

@@ -143,7 +143,8 @@ fn whole(
 
 // The fault of a text whose tokens all begin a program and are none.
 fn cut_off(text: &[u8], stop: Stop) -> SourceFault
-    ensures { (ts : List Token) (ns : List (List ℕ)) (n : ℕ) → slice_get ts n ≡ None → IsUnexpected ts n → IsLexed text.now ts ns stop → IsRefused text.now result }
+    ensures { (ts : List Token) (ns : List (List ℕ)) (n : ℕ) → slice_get ts n ≡ None → IsUnexpected ts n →
+        IsLexed text.now ts ns stop → IsRefused text.now result }
 {
     match fault_of(stop) {
         Some(fault) => fault,

@@ -117,7 +117,8 @@ fn boxed_type(alloc: Global, names: &Names, raw: &RawTy) -> Made<Box<Ty>>
 pub fn expression(alloc: Global, names: &Names, scope: &[usize], raw: &RawExpr) -> Made<Expr>
     requires room { length scope.now ≤ 32 }
     requires fits { TermFits (read_expr raw.now) }
-    ensures { IsMade (term_faults (env_in names.now) (read_expr raw.now) scope.now) (term_meant (env_in names.now) (read_expr raw.now) scope.now) read_term result }
+    ensures { IsMade (term_faults (env_in names.now) (read_expr raw.now) scope.now)
+        (term_meant (env_in names.now) (read_expr raw.now) scope.now) read_term result }
 {
     let form = form_of(alloc, names, scope, raw.at, &raw.form)?;
     Ok(Expr { at: raw.at, form })
@@ -127,7 +128,8 @@ pub fn expression(alloc: Global, names: &Names, scope: &[usize], raw: &RawExpr) 
 fn boxed_term(alloc: Global, names: &Names, scope: &[usize], raw: &RawExpr) -> Made<Box<Expr>>
     requires room { length scope.now ≤ 32 }
     requires fits { TermFits (read_expr raw.now) }
-    ensures { IsMade (term_faults (env_in names.now) (read_expr raw.now) scope.now) (term_meant (env_in names.now) (read_expr raw.now) scope.now) (λ e. read_term e.value) result }
+    ensures { IsMade (term_faults (env_in names.now) (read_expr raw.now) scope.now)
+        (term_meant (env_in names.now) (read_expr raw.now) scope.now) (λ e. read_term e.value) result }
 {
     let e = expression(alloc, names, scope, raw)?;
     Ok(boxed(alloc, e)?)
@@ -138,7 +140,8 @@ fn boxed_term(alloc: Global, names: &Names, scope: &[usize], raw: &RawExpr) -> M
 fn form_of(alloc: Global, names: &Names, scope: &[usize], at: u64, raw: &RawForm) -> Made<ExprForm>
     requires room { length scope.now ≤ 32 }
     requires fits { TermFits (read_raw_form raw.now at) }
-    ensures { IsMade (term_faults (env_in names.now) (read_raw_form raw.now at) scope.now) (term_meant (env_in names.now) (read_raw_form raw.now at) scope.now) (λ f. read_form f at) result }
+    ensures { IsMade (term_faults (env_in names.now) (read_raw_form raw.now at) scope.now)
+        (term_meant (env_in names.now) (read_raw_form raw.now at) scope.now) (λ f. read_form f at) result }
 {
     match raw {
         RawForm::Var(id) => Ok(ExprForm::Var(variable(scope, at, *id)?)),

@@ -28,7 +28,8 @@ ends_gap (b ∷ bs) = not (is_separator b) && not (b == 35)
 pub data Skips : List ℕ → List ℕ → Type 0 where
   here : {bs left : List ℕ} → IsTrue (ends_gap bs) → left ≡ bs → Skips bs left
   separator : {bs left : List ℕ} (b : ℕ) (more : List ℕ) → bs ≡ b ∷ more → IsTrue (is_separator b) → Skips more left → Skips bs left
-  comment : {bs left : List ℕ} (said more : List ℕ) → bs ≡ 35 ∷ (said ++ more) → IsTrue (is_line said) → IsTrue (ends_line more) → Skips more left → Skips bs left
+  comment : {bs left : List ℕ} (said more : List ℕ) → bs ≡ 35 ∷ (said ++ more) → IsTrue (is_line said) → IsTrue (ends_line more)
+      → Skips more left → Skips bs left
 
 -- a digit, `0` to `9`
 abbrev pub is_digit : ℕ → Bool

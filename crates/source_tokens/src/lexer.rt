@@ -96,7 +96,8 @@ impl<'a> Lexer<'a> {
 
     // Takes the next token, or answers how the text ends.
     fn advance(&mut self, alloc: Global) -> Result<Option<Stop>, AllocError>
-        ensures leads { IfOk result (λ stop. (text : List ℕ) → Completes text self.old → MatchOption stop (Completes text self.new) (λ end. Ends text self.new end)) }
+        ensures leads { IfOk result (λ stop. (text : List ℕ) → Completes text self.old →
+            MatchOption stop (Completes text self.new) (λ end. Ends text self.new end)) }
         ensures shorter { IfOk result (λ stop. IfNone stop (length self.new.rest.now < length self.old.rest.now)) }
     {
         let rest = skip(self.rest);

@@ -58,8 +58,10 @@ fn measures_of(
     requires few { length lasts.now ≤ 64 }
     requires within { All (λ v. v < length rows.now) lasts.now }
     ensures long { IfOk result (λ measures. length measures.items ≡ length lasts.now) }
-    ensures work { IfOk result (λ measures. (i : ℕ) (d : TheMeasure) → i < length lasts.now → (slice_index_or measures.items i d).work ≡ slice_index counts.now i) }
-    ensures span { IfOk result (λ measures. (i : ℕ) (d : TheMeasure) → i < length lasts.now → (slice_index_or measures.items i d).span ≡ slice_index (places_in i rows.now) (slice_index lasts.now i)) }
+    ensures work { IfOk result (λ measures. (i : ℕ) (d : TheMeasure) → i < length lasts.now →
+        (slice_index_or measures.items i d).work ≡ slice_index counts.now i) }
+    ensures span { IfOk result (λ measures. (i : ℕ) (d : TheMeasure) → i < length lasts.now →
+        (slice_index_or measures.items i d).span ≡ slice_index (places_in i rows.now) (slice_index lasts.now i)) }
 {
     let mut measures = Vec::new(alloc);
     for i in 0..lasts.len() {
@@ -147,7 +149,8 @@ pub fn measure_all(
     requires along { IsTopological graph.now along.now.items }
     requires priorities { All (λ (t : TheThread). t.priority < length order.now.names) graph.now.threads }
     ensures long { IfOk result (λ measures. length measures.items ≡ thread_total graph.now) }
-    ensures each { IfOk result (λ measures. (t : ℕ) (d : TheMeasure) → t < thread_total graph.now → IsMeasure graph.now order.now.pairs t (slice_index_or measures.items t d)) }
+    ensures each { IfOk result (λ measures. (t : ℕ) (d : TheMeasure) → t < thread_total graph.now →
+        IsMeasure graph.now order.now.pairs t (slice_index_or measures.items t d)) }
 {
     let total = graph.thread_count();
     let segments = segments_of(alloc, graph, along)?;

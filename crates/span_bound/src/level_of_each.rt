@@ -55,7 +55,8 @@ fn greatest_of_each(rows: &[[u32; 64]], numbers: &[u32], best: &mut [u32; 64])
     requires within { All (λ n. n < length rows.now) numbers.now }
     requires none { (i : ℕ) → i < 64 → slice_index best.old i ≡ 0 }
     ensures upper { (i : ℕ) → i < 64 → All (λ n. slice_index (places_in i rows.now) n ≤ slice_index best.new i) numbers.now }
-    ensures reached { (i : ℕ) → i < 64 → 0 < slice_index best.new i → (n : ℕ) × Contains numbers.now n × (slice_index (places_in i rows.now) n ≡ slice_index best.new i) }
+    ensures reached { (i : ℕ) → i < 64 → 0 < slice_index best.new i →
+        (n : ℕ) × Contains numbers.now n × (slice_index (places_in i rows.now) n ≡ slice_index best.new i) }
 {
     for number in numbers {
         raise(best, &rows[*number as usize]);
@@ -73,8 +74,11 @@ pub(crate) fn levels_of_each(
     requires segments { AreSegments graph.now segments.now }
     requires fits { length skipped.now ≡ length segments.now.heads.items }
     ensures fits { IfOk result (λ rows. length rows.items ≡ length segments.now.heads.items) }
-    ensures low { IfOk result (λ rows. (i s : ℕ) → i < 64 → s < length segments.now.heads.items → slice_index (places_in i rows.items) s ≤ vertex_total graph.now) }
-    ensures are { IfOk result (λ rows. (i s : ℕ) → i < 64 → s < length segments.now.heads.items → IsLevel graph.now (column i (spread segments.now.slots.items skipped.now)) (last_of segments.now.heads.items segments.now.lens.items s) (slice_index (places_in i rows.items) s)) }
+    ensures low { IfOk result (λ rows. (i s : ℕ) → i < 64 → s < length segments.now.heads.items →
+        slice_index (places_in i rows.items) s ≤ vertex_total graph.now) }
+    ensures are { IfOk result (λ rows. (i s : ℕ) → i < 64 → s < length segments.now.heads.items →
+        IsLevel graph.now (column i (spread segments.now.slots.items skipped.now))
+        (last_of segments.now.heads.items segments.now.lens.items s) (slice_index (places_in i rows.items) s)) }
 {
     let _total = graph.vertex_count();
     let count = segments.heads.len();

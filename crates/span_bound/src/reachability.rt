@@ -72,7 +72,8 @@ pub(crate) fn ancestors_of_each(
     requires few { length targets.now ≤ 64 }
     requires within { All (λ t. t < vertex_total graph.now) targets.now }
     ensures long { IfOk result (λ words. length words.items ≡ length segments.now.heads.items) }
-    ensures are { IfOk result (λ words. AreMarkedForEach graph.now (length targets.now) (λ i v. IsProperAncestor graph.now v (slice_index targets.now i)) (spread segments.now.slots.items words.items)) }
+    ensures are { IfOk result (λ words. AreMarkedForEach graph.now (length targets.now)
+        (λ i v. IsProperAncestor graph.now v (slice_index targets.now i)) (spread segments.now.slots.items words.items)) }
 {
     let _total = graph.vertex_count();
     let count = segments.heads.len();
@@ -101,7 +102,8 @@ pub(crate) fn descendants_of_each(
     requires few { length sources.now ≤ 64 }
     requires within { All (λ s. s < vertex_total graph.now) sources.now }
     ensures long { IfOk result (λ words. length words.items ≡ length segments.now.heads.items) }
-    ensures are { IfOk result (λ words. AreMarkedForEach graph.now (length sources.now) (λ i v. IsProperAncestor graph.now (slice_index sources.now i) v) (spread segments.now.slots.items words.items)) }
+    ensures are { IfOk result (λ words. AreMarkedForEach graph.now (length sources.now)
+        (λ i v. IsProperAncestor graph.now (slice_index sources.now i) v) (spread segments.now.slots.items words.items)) }
 {
     let _total = graph.vertex_count();
     let count = segments.heads.len();

@@ -60,7 +60,8 @@ fn extend(lens: &mut Vec<u32>, slots: &mut Vec<u32>, vertex: u32)
     requires slot { get_or slots.old.items (vertex - 1) 0 < length lens.old.items }
     requires small { get_or lens.old.items (get_or slots.old.items (vertex - 1) 0) 0 + 1 < 2 ^ 32 }
     ensures slots { slots.new.items ≡ set slots.old.items vertex (get_or slots.old.items (vertex - 1) 0) }
-    ensures lens { lens.new.items ≡ set lens.old.items (get_or slots.old.items (vertex - 1) 0) (get_or lens.old.items (get_or slots.old.items (vertex - 1) 0) 0 + 1) }
+    ensures lens { lens.new.items ≡ set lens.old.items (get_or slots.old.items (vertex - 1) 0)
+        (get_or lens.old.items (get_or slots.old.items (vertex - 1) 0) 0 + 1) }
 {
     let slot = slots[vertex as usize - 1];
     slots[vertex as usize] = slot;
@@ -139,7 +140,8 @@ fn parents_in(
     requires within { All (λ v. v < vertex_total graph.now) heads.now }
     requires covers { length slots.now ≡ vertex_total graph.now }
     ensures long { IfOk result (λ p. length p.items ≡ length heads.now) }
-    ensures are { IfOk result (λ p. (s : ℕ) → s < length heads.now → get_or (lists p.items) s [] ≡ images slots.now (parents_at graph.now (get_or heads.now s 0))) }
+    ensures are { IfOk result (λ p. (s : ℕ) → s < length heads.now →
+        get_or (lists p.items) s [] ≡ images slots.now (parents_at graph.now (get_or heads.now s 0))) }
 {
     let _count = graph.vertex_count();
     let mut all = Vec::with_capacity(alloc, heads.len())?;
@@ -160,7 +162,8 @@ fn children_in(
 ) -> Result<Vec<Vec<u32>>, AllocError>
     requires cut { AreSegmentsOf graph.now heads.now lens.now slots.now }
     ensures long { IfOk result (λ c. length c.items ≡ length heads.now) }
-    ensures are { IfOk result (λ c. (s : ℕ) → s < length heads.now → get_or (lists c.items) s [] ≡ images slots.now (children_at graph.now (last_of heads.now lens.now s))) }
+    ensures are { IfOk result (λ c. (s : ℕ) → s < length heads.now →
+        get_or (lists c.items) s [] ≡ images slots.now (children_at graph.now (last_of heads.now lens.now s))) }
 {
     let _count = graph.vertex_count();
     let mut all = Vec::with_capacity(alloc, heads.len())?;

@@ -13,7 +13,9 @@ use Rattle.steal_runtime.specs.declared.stops.RunStop.TheVariants.{StepLimit, Ou
 -- the cuts lead from n steps to m without gap, each of 1 to quantum steps and by one of the workers
 abbrev pub CutsCover : ℕ → ℕ → ℕ → List Cut → ℕ → Type 0
 CutsCover workers quantum n [] m = n ≡ m
-CutsCover workers quantum n (c ∷ cs) m = (c.from ≡ n) × (0 < c.steps) × (c.steps ≤ quantum) × (c.worker < workers) × CutsCover workers quantum (n + c.steps) cs m
+CutsCover workers quantum n (c ∷ cs) m =
+    (c.from ≡ n) × (0 < c.steps) × (c.steps ≤ quantum) × (c.worker < workers)
+    × CutsCover workers quantum (n + c.steps) cs m
 
 -- the log of a thread is of cuts by the workers
 abbrev pub IsCutByWorkers : ℕ → ℕ → Log → Type 0

@@ -13,7 +13,8 @@ impl Task {
     pub fn feed(&mut self, outcome: Outcome)
         requires { IsSome (awaited_of (read_task self.old)) }
         ensures fed { read_task self.new ≡ record (read_task self.old) { fed = Some (read_outcome outcome) } }
-        ensures task { (job : TheJob) (b : List ℕ) → OfJob job (read_task self.old) → awaited_of (read_task self.old) ≡ Some b → EndsWith job b (read_outcome outcome) → OfJob job (read_task self.new) }
+        ensures task { (job : TheJob) (b : List ℕ) → OfJob job (read_task self.old) → awaited_of (read_task self.old) ≡ Some b →
+            EndsWith job b (read_outcome outcome) → OfJob job (read_task self.new) }
     {
         self.fed = Some(outcome);
     }

@@ -47,7 +47,8 @@ impl Task {
     /// The task of the first root, not started.
     pub fn root(alloc: Global, job: &Job) -> Result<Task, AllocError>
         ensures start { IfOk result (λ t. IsStart (read_job job.now) (read_task t)) }
-        ensures root { IfOk result (λ t. option_map (λ m. root_state m 0) (slice_get (read_job job.now).program.mains 0) ≡ state_of (read_job job.now).program (read_task t).local) }
+        ensures root { IfOk result (λ t. option_map (λ m. root_state m 0) (slice_get (read_job job.now).program.mains 0)
+            ≡ state_of (read_job job.now).program (read_task t).local) }
     {
         Task::root_at(alloc, job, 0)
     }
@@ -56,7 +57,8 @@ impl Task {
     pub fn root_at(alloc: Global, job: &Job, k: u32) -> Result<Task, AllocError>
         requires { k < length (read_job job.now).program.mains }
         ensures start { IfOk result (λ t. IsStart (read_job job.now) (read_task t)) }
-        ensures root { IfOk result (λ t. option_map (λ m. root_state m k) (slice_get (read_job job.now).program.mains k) ≡ state_of (read_job job.now).program (read_task t).local) }
+        ensures root { IfOk result (λ t. option_map (λ m. root_state m k) (slice_get (read_job job.now).program.mains k)
+            ≡ state_of (read_job job.now).program (read_task t).local) }
     {
         let local = Local::root_at(alloc, job, k)?;
         begin(alloc, local)

@@ -55,7 +55,8 @@ fn types_of<'p>(
     es: &'p [Expr],
 ) -> Result<Vec<Shared<'p>>, TypeStop>
     requires { AllInScope (length scope.now) (map read_term es.now) }
-    ensures { MatchResult result (λ ts. HaveTypes (scope_of scope.now) (map read_term es.now) (map read_shared ts.items)) (TermsStop (scope_of scope.now) (map read_term es.now)) }
+    ensures { MatchResult result (λ ts. HaveTypes (scope_of scope.now) (map read_term es.now) (map read_shared ts.items))
+        (TermsStop (scope_of scope.now) (map read_term es.now)) }
 {
     let mut types = Vec::with_capacity(alloc, es.len())?;
     for e in es {

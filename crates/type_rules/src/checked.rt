@@ -98,7 +98,8 @@ fn typed_order(alloc: Global, program: &Program) -> Result<Order, TypeStop>
 // The order that the program's pairs make, where none closes a cycle.
 fn order_of(alloc: Global, program: &Program) -> Result<Order, TypeStop>
     requires { IsScoped (read_program program.now) }
-    ensures { let p = read_program program.now in MatchResult result (λ order. IsOrderOf p order × IsLawful (pairs_of p)) (PartsStop p (pair_parts 0 p.declared)) }
+    ensures { let p = read_program program.now in MatchResult result (λ order. IsOrderOf p order × IsLawful (pairs_of p))
+        (PartsStop p (pair_parts 0 p.declared)) }
 {
     let declared = program.pairs.as_slice();
     let pairs = pairs(alloc, declared)?;

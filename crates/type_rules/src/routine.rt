@@ -36,7 +36,8 @@ pub fn check_routine(
 ) -> Result<(), TypeStop>
     requires order { IsOrderOf (read_program program.now) order.now }
     requires scoped { RoutineIn (read_program program.now) (read_proc routine.now) }
-    ensures { let p = read_program program.now in MatchResult result (λ _. RoutineTyped p (read_proc routine.now)) (PartsStop p (routine_parts (read_proc routine.now))) }
+    ensures { let p = read_program program.now in MatchResult result (λ _. RoutineTyped p (read_proc routine.now))
+        (PartsStop p (routine_parts (read_proc routine.now))) }
 {
     let found = type_of_routine(alloc, order, program, routine)?;
     if found.is_written(&routine.result) {

@@ -18,7 +18,8 @@ pub fn type_of<'p>(
     expr: &'p Expr,
 ) -> Result<Shared<'p>, TypeStop>
     requires { InScope (length scope.now) (read_term expr.now) }
-    ensures { MatchResult result (λ t. HasType (scope_of scope.now) (read_term expr.now) (read_shared t)) (λ stop. TermStops (scope_of scope.now) (read_term expr.now) stop) }
+    ensures { MatchResult result (λ t. HasType (scope_of scope.now) (read_term expr.now) (read_shared t))
+        (λ stop. TermStops (scope_of scope.now) (read_term expr.now) stop) }
 {
     let at = expr.at;
     match &expr.form {

@@ -43,7 +43,8 @@ pub fn planned(
     requires sound { (o : Names) → IsOrderOf (read_program job.program) o → IsSound graph o }
     requires some { 1 ≤ cores }
     requires few { cores ≤ 1024 }
-    ensures { (most : ℕ) (input : List ℕ) (s : Sections) → IsGraphed most input s (read_program job.program) (map read_record records) graph → Replies (Planned cores most input) result }
+    ensures { (most : ℕ) (input : List ℕ) (s : Sections) →
+        IsGraphed most input s (read_program job.program) (map read_record records) graph → Replies (Planned cores most input) result }
 {
     let order = job.order();
     let schedule = plan(alloc, &graph, order, cores)?;

@@ -56,7 +56,8 @@ fn trace_text(
     book: &Book,
 ) -> Result<Vec<u8>, AllocError>
     requires { All (λ (r : TheRecord). r.prio < length order.now.names) records.now }
-    ensures { IfOk result (λ v. (ls : List Log) × IsInPathOrder book.now ls × (v.items ≡ run_lines order.now.names (map read_record records.now) ++ flat_map log_lines ls)) }
+    ensures { IfOk result (λ v. (ls : List Log) × IsInPathOrder book.now ls
+        × (v.items ≡ run_lines order.now.names (map read_record records.now) ++ flat_map log_lines ls)) }
 {
     let mut text = run_text(alloc, records, order)?;
     let cuts = book.cuts_text(alloc)?;

@@ -31,7 +31,9 @@ Stays b s t = Sits b t × SameSeat (knows s) (knows t)
 
 -- a worker can keep to these numbers at the board
 abbrev pub Serves : Board → WithInputs → Duty → Type 0
-Serves b job d = (the_job (about b) ≡ read_job job) × (d.worker < (about b).opened) × ((about b).quantum ≡ d.quantum) × ((about b).limit ≡ d.limit) × (0 < d.quantum)
+Serves b job d =
+    (the_job (about b) ≡ read_job job) × (d.worker < (about b).opened)
+    × ((about b).quantum ≡ d.quantum) × ((about b).limit ≡ d.limit) × (0 < d.quantum)
 
 -- a worker has left; where it says that every thread has ended its seat has found it so
 abbrev pub Leaves : Board → Left → Type 0

@@ -27,7 +27,8 @@ fn gathered(alloc: Global, children: u32) -> Result<Scene, Fail>
 }
 
 fn threads_of(alloc: Global, children: u32) -> Result<Vec<Thread>, Fail>
-    ensures { IfOk result (λ v. v.items ≡ record { path = 0 ∷ []; priority = 0; vertices = 2 } ∷ map (λ k. record { path = 0 ∷ k ∷ []; priority = 0; vertices = 1 }) (range_with_len 0 children)) }
+    ensures { IfOk result (λ v. v.items ≡ record { path = 0 ∷ []; priority = 0; vertices = 2 }
+        ∷ map (λ k. record { path = 0 ∷ k ∷ []; priority = 0; vertices = 1 }) (range_with_len 0 children)) }
 {
     let mut threads = Vec::new(alloc);
     threads.push(thread(Path::root(alloc)?, 2))?;

@@ -72,18 +72,31 @@ pub(crate) fn work_of(book: Result<Book, RunStop>) -> Result<u64, Fail> {
     }
 }
 
+/// The work of a run of one worker, one step in each turn, and how many tasks it put into lanes, shared or stealing.
+fn work_and_puts<R: Threads + Wait + Sync>(
+    rt: &R,
+    alloc: Global,
+    job: &Job,
+    is_shared: bool,
+) -> Result<(u64, u64), Fail> {
+    let puts = AtomicU64::new(0);
+    let book = if is_shared {
+        share_counted(rt, alloc, job, &puts, 1, 1, 100)
+    } else {
+        steal_counted(rt, alloc, job, &puts)
+    };
+    Ok((work_of(book)?, puts.load(Ordering::SeqCst)))
+}
+
 /// The tasks that one worker puts: the root at the start and after its Start, it and its child after its Spawn, the child after each
 /// of its steps but the last, the root when the child has ended, since it was parked till then, and after its Join.
 #[test]
 fn tasks_go_through_both_forms(rt: HostRuntime) -> Result<(), Fail> {
     let alloc = rt.alloc();
     let job = waits().job(alloc)?;
-    let puts = AtomicU64::new(0);
-    let book = share_counted(&rt, alloc, &job, &puts, 1, 1, 100);
-    assert_eq!(rt; (work_of(book)?, puts.load(Ordering::SeqCst)), (8, 9));
-    let puts = AtomicU64::new(0);
-    let book = steal_counted(&rt, alloc, &job, &puts);
-    assert_eq!(rt; (work_of(book)?, puts.load(Ordering::SeqCst)), (8, 9));
+    for is_shared in [true, false] {
+        assert_eq!(rt; work_and_puts(&rt, alloc, &job, is_shared)?, (8, 9));
+    }
     Ok(())
 }
 

@@ -3,7 +3,7 @@ ghost use Rattle.std.specs.Prelude.{◌≡◌, ◌+◌, ◌<◌, ◌-◌, [], ve
 ghost use Rattle.task_state.specs.Sums.{total};
 ghost use Rattle.join_board.specs.Logs.{Each};
 ghost use Rattle.join_board.specs.Inside.Views.{left, right, both};
-ghost use Rattle.join_board.specs.Handles.{knows, IsSeatOf};
+ghost use Rattle.join_board.specs.Handles.{about, knows, IsSeatOf};
 ghost use Rattle.join_board.specs.Close.{Closes};
 ghost use Rattle.join_board.specs.Inside.Close.{ClosesOne, Absorbed};
 
@@ -45,8 +45,8 @@ impl Board {
     /// The book of the board's logs, by all the board's seats, each once. Parked tasks are dropped. It takes no memory.
     pub fn close(self, mut seats: Vec<BoardSeat>) -> Book
         requires seats { Each (λ s. IsSeatOf self s) seats.items }
-        requires all { (total (λ s. (knows s).seats) seats.items ≡ self.table.shared.key.opened) × (0 < vec_len seats) }
-        ensures { Closes self.table.shared.key seats.items result }
+        requires all { (total (λ s. (knows s).seats) seats.items ≡ (about self).opened) × (0 < vec_len seats) }
+        ensures { Closes (about self) seats.items result }
     {
         let Some(first) = seats.pop() else {
             unreachable!()
@@ -77,8 +77,8 @@ impl Board {
     /// The book of the logs at home, which are all.
     fn close_one(self, seat: Place) -> Book
         requires table { seat.table_id ≡ self.table.shared.table_id }
-        requires all { (seat.me.0.hand.hand ≡ 0) × (seat.me.0.seats ≡ self.table.shared.key.opened) }
-        ensures { ClosesOne self.table.shared.key seat.me.0 result }
+        requires all { (seat.me.0.hand.hand ≡ 0) × (seat.me.0.seats ≡ (about self).opened) }
+        ensures { ClosesOne (about self) seat.me.0 result }
     {
         let Board { table, mut room } = self;
         let mut closed = table.close_with(seat);

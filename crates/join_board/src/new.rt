@@ -4,7 +4,7 @@ ghost use Rattle.core_steps.specs.Moves.{read_job};
 ghost use Rattle.join_board.specs.Jobs.{the_job};
 ghost use Rattle.join_board.specs.Logs.{Each};
 ghost use Rattle.join_board.specs.Views.{opened_view};
-ghost use Rattle.join_board.specs.Handles.{knows, IsSeatOf};
+ghost use Rattle.join_board.specs.Handles.{about, knows, IsSeatOf};
 
 use crate::owned::{Board, BoardSeat};
 use std::alloc::{AllocError, Global};
@@ -20,9 +20,9 @@ impl Board {
         limit: u64,
     ) -> Result<(Board, Vec<BoardSeat>), AllocError>
         requires seats { (0 < seats) × (seats ≤ 16) }
-        ensures seats { IfOk result (λ b. (vec_len b.1 ≡ seats) × Each (λ s. IsSeatOf b.0 s × (knows s ≡ opened_view b.0.table.shared.key 1)) b.1.items) }
-        ensures about { IfOk result (λ b. (the_job b.0.table.shared.key ≡ read_job job.now) × (b.0.table.shared.key.opened ≡ seats)
-            × (b.0.table.shared.key.quantum ≡ quantum) × (b.0.table.shared.key.limit ≡ limit)) }
+        ensures seats { IfOk result (λ b. (vec_len b.1 ≡ seats) × Each (λ s. IsSeatOf b.0 s × (knows s ≡ opened_view (about b.0) 1)) b.1.items) }
+        ensures about { IfOk result (λ b. (the_job (about b.0) ≡ read_job job.now) × ((about b.0).opened ≡ seats)
+            × ((about b.0).quantum ≡ quantum) × ((about b.0).limit ≡ limit)) }
     {
         let mut all = Vec::with_capacity(alloc, seats as usize)?;
         let (board, mut first) = Board::open(alloc, job, seats, quantum, limit)?;

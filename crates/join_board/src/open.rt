@@ -7,7 +7,7 @@ ghost use Rattle.join_board.specs.Jobs.{the_job};
 ghost use Rattle.join_board.specs.Inside.Openings.{FirstShards, IsRooted};
 ghost use Rattle.join_board.specs.Threads.{PrioOf};
 ghost use Rattle.join_board.specs.Views.{newcomer};
-ghost use Rattle.join_board.specs.Handles.{knows, IsSeatOf};
+ghost use Rattle.join_board.specs.Handles.{about, knows, IsSeatOf};
 
 use crate::owned::{Board, BoardSeat};
 use crate::shard::{Shard, shard_of};
@@ -90,9 +90,9 @@ impl Board {
         limit: u64,
     ) -> Result<(Board, BoardSeat), AllocError>
         requires seats { (0 < seats) × (seats ≤ 16) }
-        ensures seat { IfOk result (λ b. IsSeatOf b.0 b.1 × (knows b.1 ≡ newcomer b.0.table.shared.key)) }
-        ensures about { IfOk result (λ b. (the_job b.0.table.shared.key ≡ read_job job.now) × (b.0.table.shared.key.opened ≡ seats)
-            × (b.0.table.shared.key.quantum ≡ quantum) × (b.0.table.shared.key.limit ≡ limit)) }
+        ensures seat { IfOk result (λ b. IsSeatOf b.0 b.1 × (knows b.1 ≡ newcomer (about b.0))) }
+        ensures about { IfOk result (λ b. (the_job (about b.0) ≡ read_job job.now) × ((about b.0).opened ≡ seats)
+            × ((about b.0).quantum ≡ quantum) × ((about b.0).limit ≡ limit)) }
     {
         let room = Vec::with_capacity(alloc, 64)?;
         let about = About {

@@ -2,6 +2,7 @@ ghost use Rattle.std.specs.Prelude.{◌≡◌, ◌<◌, length, None, Ok, IsOk, 
 ghost use Rattle.std.specs.Io.{ReadsAtMost, WritesAtMost};
 ghost use Rattle.std.specs.Io.KnownBytes.{ReadConsumes, WriteAppends};
 ghost use Rattle.priml_io.specs.Ends.{HasCause, Counts};
+ghost use Rattle.priml_io.specs.Standard.{reader_of, read_faults, writer_of, write_faults};
 
 use crate::ends::{Failed, Sink, Source};
 use std::io::{Read, Write};
@@ -32,7 +33,7 @@ pub struct StdSource<R> {
 impl<R> StdSource<R> {
     /// The source of what this reader gives, with no fault yet.
     pub fn new(reader: R) -> StdSource<R>
-        ensures { result ≡ record { reader = reader; faults = 0 } }
+        ensures { (reader_of result ≡ reader) × (read_faults result ≡ 0) }
     {
         StdSource { reader, faults: 0 }
     }
@@ -41,13 +42,13 @@ impl<R> StdSource<R> {
 impl<R: Read> Source for StdSource<R> {
     ghost left = { λ _. None };
 
-    ghost faults = { λ s. s.faults };
+    ghost faults = { read_faults };
 
     fn take(&mut self, buf: &mut [u8]) -> Result<usize, Failed>
         ensures bound { ReadsAtMost result buf.new }
-        ensures bytes { ReadConsumes (R.remaining self.old.reader) (R.remaining self.new.reader) result buf.new }
-        ensures cause { HasCause self.old.faults self.new.faults result }
-        ensures counts { Counts self.old.faults self.new.faults result }
+        ensures bytes { ReadConsumes (R.remaining (reader_of self.old)) (R.remaining (reader_of self.new)) result buf.new }
+        ensures cause { HasCause (read_faults self.old) (read_faults self.new) result }
+        ensures counts { Counts (read_faults self.old) (read_faults self.new) result }
     {
         or_fault(&mut self.faults, self.reader.read(buf).ok())
     }
@@ -64,15 +65,15 @@ pub struct StdSink<W> {
 impl<W: Write> Sink for StdSink<W> {
     ghost written = { λ _. None };
 
-    ghost faults = { λ s. s.faults };
+    ghost faults = { write_faults };
 
     fn put(&mut self, piece: &[u8]) -> Result<usize, Failed>
         ensures bound { WritesAtMost result piece.now }
         ensures some { IfOk result (λ n. 0 < length piece.now → 0 < n) }
         ensures nothing { length piece.now ≡ 0 → IsOk result }
-        ensures bytes { WriteAppends (W.contents self.old.writer) (W.contents self.new.writer) result piece.now }
-        ensures cause { HasCause self.old.faults self.new.faults result }
-        ensures counts { Counts self.old.faults self.new.faults result }
+        ensures bytes { WriteAppends (W.contents (writer_of self.old)) (W.contents (writer_of self.new)) result piece.now }
+        ensures cause { HasCause (write_faults self.old) (write_faults self.new) result }
+        ensures counts { Counts (write_faults self.old) (write_faults self.new) result }
     {
         if piece.is_empty() {
             return Ok(0);
@@ -87,7 +88,7 @@ impl<W: Write> Sink for StdSink<W> {
 impl<W> StdSink<W> {
     /// The sink that writes to this writer, with no fault yet.
     pub fn new(writer: W) -> StdSink<W>
-        ensures { result ≡ record { writer = writer; faults = 0 } }
+        ensures { (writer_of result ≡ writer) × (write_faults result ≡ 0) }
     {
         StdSink { writer, faults: 0 }
     }

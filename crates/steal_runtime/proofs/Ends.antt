@@ -13,12 +13,12 @@ use Rattle.join_board.specs.declared.view.About.{About}
 use Rattle.join_board.specs.declared.view.View.{View}
 use Rattle.join_board.specs.Views.{opened_view}
 use Rattle.join_board.specs.Close.{Closes}
-use Rattle.join_board.specs.Handles.{knows, IsSeatOf}
+use Rattle.join_board.specs.Handles.{about, knows, IsSeatOf}
 use Rattle.join_board.specs.Jobs.{the_job}
 use Rattle.task_state.specs.Sums.{total}
 use Rattle.join_board.specs.Logs.{Each}
 use Rattle.steal_runtime.specs.Runs.{IsRun}
-use Rattle.steal_runtime.specs.Inside.Seats.{Sits, SomeOver, about}
+use Rattle.steal_runtime.specs.Inside.Seats.{Sits, SomeOver}
 use Rattle.steal_runtime.proofs.Books.{is_run, over_limit}
 use Rattle.join_board.proofs.Books.{all_of}
 use Rattle.join_board.proofs.Readings.{contains_at}

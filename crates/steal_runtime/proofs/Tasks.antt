@@ -20,13 +20,13 @@ use Rattle.join_board.specs.declared.owned.BoardSeat.{BoardSeat}
 use Rattle.join_board.specs.declared.view.About.{About}
 use Rattle.join_board.specs.declared.view.View.{View}
 use Rattle.join_board.specs.Calls.{CanCommit, HasSeen, SameSeat}
-use Rattle.join_board.specs.Handles.{knows}
+use Rattle.join_board.specs.Handles.{about, knows}
 use Rattle.join_board.specs.Jobs.{the_job}
 use Rattle.join_board.specs.Logs.{CanWait, Each}
 use Rattle.join_board.specs.Threads.{PrioOf, Spawns}
 use Rattle.join_board.specs.Views.{HasSeenEnd, HasSeenSpawn}
 use Rattle.join_board.proofs.Laws.{all_joins}
-use Rattle.steal_runtime.specs.Inside.Seats.{Sits, about}
+use Rattle.steal_runtime.specs.Inside.Seats.{Sits}
 use Rattle.join_board.specs.Tasks.{CanRun}
 use Rattle.join_board.proofs.Books.{all_of}
 use Rattle.steal_runtime.proofs.Seats.{seen_end}

@@ -3,10 +3,10 @@ ghost use Rattle.std.specs.Prelude.{◌≡◌, ◌<◌, true, IfOk, IfSome};
 ghost use Rattle.core_steps.specs.Moves.{read_job};
 ghost use Rattle.task_state.specs.Segments.{IsHandedOut};
 ghost use Rattle.task_state.specs.Tasks.{OfJob, read_task};
-ghost use Rattle.join_board.specs.Handles.{knows};
+ghost use Rattle.join_board.specs.Handles.{about, knows};
 ghost use Rattle.join_board.specs.Jobs.{the_job};
 ghost use Rattle.join_board.specs.Tasks.{CanRun};
-ghost use Rattle.steal_runtime.specs.Inside.Seats.{Serves, Sits, Stays, about};
+ghost use Rattle.steal_runtime.specs.Inside.Seats.{Serves, Sits, Stays};
 ghost use Rattle.steal_runtime.specs.Inside.Tasks.{AwaitsOne, CanSettle, IsSettled};
 
 use crate::parts::Duty;

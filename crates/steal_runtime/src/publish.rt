@@ -2,11 +2,11 @@
 ghost use Rattle.std.specs.Prelude.{IfOk, IfSome};
 ghost use Rattle.trace_book.specs.Segments.{read_segment};
 ghost use Rattle.join_board.specs.Calls.{CanCommit};
-ghost use Rattle.join_board.specs.Handles.{knows};
+ghost use Rattle.join_board.specs.Handles.{about, knows};
 ghost use Rattle.join_board.specs.Jobs.{the_job};
 ghost use Rattle.join_board.specs.Threads.{PrioOf};
 ghost use Rattle.join_board.specs.Views.{HasSeenSpawn};
-ghost use Rattle.steal_runtime.specs.Inside.Seats.{Sits, Stays, about, IsPublished};
+ghost use Rattle.steal_runtime.specs.Inside.Seats.{Sits, Stays, IsPublished};
 
 use join_board::{Board, BoardSeat, Commit, Enroll};
 use priml_syntax::Path;

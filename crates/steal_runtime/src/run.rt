@@ -2,9 +2,10 @@
 ghost use Rattle.std.specs.Prelude.{◌≡◌, ◌+◌, ◌^◌, ◌<◌, ◌≤◌, true, IfErr, IfOk, OnOk, vec_len};
 ghost use Rattle.std.specs.List.{All};
 ghost use Rattle.core_steps.specs.Moves.{read_job};
+ghost use Rattle.join_board.specs.Handles.{about};
 ghost use Rattle.join_board.specs.Jobs.{the_job};
 ghost use Rattle.steal_runtime.specs.Runs.{IsRun, IsStop};
-ghost use Rattle.steal_runtime.specs.Inside.Seats.{Leaves, Serves, Sits, SomeOver, about};
+ghost use Rattle.steal_runtime.specs.Inside.Seats.{Leaves, Serves, Sits, SomeOver};
 
 use crate::gate::Gate;
 use crate::parts::{Duty, Left, Part};

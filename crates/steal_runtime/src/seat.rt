@@ -1,7 +1,7 @@
 //! The single steps of a worker at its seat.
 ghost use Rattle.std.specs.Prelude.{◌≡◌, ◌<◌, true};
-ghost use Rattle.join_board.specs.Handles.{knows};
-ghost use Rattle.steal_runtime.specs.Inside.Seats.{Sits, Stays, about};
+ghost use Rattle.join_board.specs.Handles.{about, knows};
+ghost use Rattle.steal_runtime.specs.Inside.Seats.{Sits, Stays};
 
 use join_board::{Board, BoardSeat, StopCause};
 

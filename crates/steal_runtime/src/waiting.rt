@@ -2,10 +2,10 @@
 ghost use Rattle.std.specs.Prelude.{◌≡◌, ◌^◌, IfOk, IfSome, Some, IsSome};
 ghost use Rattle.core_steps.specs.Moves.{read_job};
 ghost use Rattle.task_state.specs.Tasks.{awaited_of, read_task};
-ghost use Rattle.join_board.specs.Handles.{knows};
+ghost use Rattle.join_board.specs.Handles.{about, knows};
 ghost use Rattle.join_board.specs.Jobs.{the_job};
 ghost use Rattle.join_board.specs.Tasks.{CanRun};
-ghost use Rattle.steal_runtime.specs.Inside.Seats.{Sits, Stays, about};
+ghost use Rattle.steal_runtime.specs.Inside.Seats.{Sits, Stays};
 ghost use Rattle.steal_runtime.specs.Inside.Tasks.{AwaitsOne};
 
 use crate::put::put;

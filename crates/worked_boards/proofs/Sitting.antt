@@ -11,7 +11,7 @@ use Rattle.join_board.specs.declared.view.About.{About}
 use Rattle.join_board.specs.declared.view.View.{View}
 use Rattle.join_board.specs.Calls.{HasSeen, LengthIn, NotListed, SameSeat}
 use Rattle.join_board.specs.Entries.{Entry}
-use Rattle.join_board.specs.Handles.{knows, IsSeatOf}
+use Rattle.join_board.specs.Handles.{about, knows, IsSeatOf}
 use Rattle.join_board.specs.Jobs.{the_job}
 use Rattle.task_state.specs.Sums.{total}
 use Rattle.join_board.specs.Logs.{Each}
@@ -44,8 +44,8 @@ has_steps v w p n more len found = ⊎_elim
     (λ h. h) found
 
 -- a seat of a board that was opened
-pub opened_sits : (job : Job) (b : Board) (ss : List BoardSeat) → the_job b.table.shared.key ≡ job → b.table.shared.key.quantum ≡ 64 → 0 < b.table.shared.key.opened
-    → Each (λ (s : BoardSeat). IsSeatOf b s × (knows s ≡ opened_view b.table.shared.key 1)) ss → All (Sits job b) ss
+pub opened_sits : (job : Job) (b : Board) (ss : List BoardSeat) → the_job (about b) ≡ job → (about b).quantum ≡ 64 → 0 < (about b).opened
+    → Each (λ (s : BoardSeat). IsSeatOf b s × (knows s ≡ opened_view (about b) 1)) ss → All (Sits job b) ss
 opened_sits job b ss is quantum some_seat h = all_seats (Sits job b) ss (λ i s at. let o = h i s at in let v = o.1 in (
   o.0,
   ap (λ (u : View). the_job u.about) v ∙ is,

@@ -3,6 +3,7 @@ ghost use Rattle.std.specs.Prelude.{◌≡◌, ◌<◌, ◌≤◌, IfOk, OnOk, v
 ghost use Rattle.std.specs.List.{All};
 ghost use Rattle.core_steps.specs.Moves.{read_job as the_job};
 ghost use Rattle.task_state.specs.Tasks.{read_task};
+ghost use Rattle.join_board.specs.Handles.{about};
 ghost use Rattle.join_board.specs.Tasks.{IsChild, IsIdle};
 ghost use Rattle.worked_boards.specs.Seats.{Commits, Sits};
 
@@ -23,7 +24,7 @@ pub(crate) fn open(
     limit: u64,
 ) -> Result<(Board, Vec<BoardSeat>), Fail>
     requires { (0 < seats) × (seats ≤ 16) }
-    ensures { IfOk result (λ b. (vec_len b.1 ≡ seats) × (b.0.table.shared.key.opened ≡ seats) × All (λ s. Sits (the_job job.now) b.0 s) b.1.items) }
+    ensures { IfOk result (λ b. (vec_len b.1 ≡ seats) × ((about b.0).opened ≡ seats) × All (λ s. Sits (the_job job.now) b.0 s) b.1.items) }
 {
     let (board, all) = Board::new(alloc, job, seats, 64, limit)?;
     Ok((board, all))
@@ -31,7 +32,7 @@ pub(crate) fn open(
 
 /// The book, by all seats.
 pub(crate) fn close(_job: &Job, board: Board, seats: Vec<BoardSeat>) -> Book
-    requires count { (vec_len seats ≡ board.table.shared.key.opened) × (0 < vec_len seats) }
+    requires count { (vec_len seats ≡ (about board).opened) × (0 < vec_len seats) }
     requires seats { All (λ s. Sits (the_job _job.now) board s) seats.items }
 {
     board.close(seats)

@@ -8,18 +8,14 @@ use Rattle.trace_book.specs.Segments.{SegmentFields}
 use Rattle.task_state.specs.declared.task.Task.{Task}
 use Rattle.join_board.specs.declared.owned.Board.{Board}
 use Rattle.join_board.specs.declared.owned.BoardSeat.{BoardSeat}
-use Rattle.join_board.specs.declared.view.About.{About}
 use Rattle.join_board.specs.declared.view.View.{View}
 use Rattle.join_board.specs.Calls.{HasSeen, SameSeat}
-use Rattle.join_board.specs.Handles.{knows, IsSeatOf}
+use Rattle.join_board.specs.Handles.{about, knows, IsSeatOf}
 use Rattle.join_board.specs.Jobs.{the_job}
 use Rattle.join_board.specs.Logs.{CanWait, Each}
 use Rattle.join_board.specs.Threads.{ended}
 use Rattle.steal_runtime.specs.declared.parts.Duty.{Duty}
 use Rattle.steal_runtime.specs.declared.parts.Left.{Left}
-
-abbrev pub about : Board → About
-about b = b.table.shared.key
 
 -- a seat of the board that stands for itself alone
 abbrev pub Sits : Board → BoardSeat → Type 0

@@ -4,11 +4,10 @@ use Rattle.core_steps.specs.Moves.{read_job}
 use Rattle.core_steps.specs.Steps.{Job}
 use Rattle.task_state.specs.Tasks.{OfJob, read_task}
 use Rattle.task_state.specs.Turns.{Halts, IsLastChild}
-use Rattle.join_board.specs.Handles.{knows}
+use Rattle.join_board.specs.Handles.{about, knows}
 use Rattle.join_board.specs.Jobs.{the_job}
 use Rattle.join_board.specs.Threads.{PrioOf}
 use Rattle.join_board.specs.Views.{HasSeenSpawn}
-use Rattle.steal_runtime.specs.Inside.Seats.{about}
 use Rattle.steal_runtime.proofs.Tasks.{has_spawned, prio_of, turn_joins}
 use Rattle.steal_runtime.proofs.advance.advance.Goals as goal
 

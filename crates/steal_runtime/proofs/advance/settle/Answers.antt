@@ -5,10 +5,10 @@ use Rattle.trace_book.specs.Segments.{read_segment}
 use Rattle.task_state.specs.declared.task.Task.{Task}
 use Rattle.task_state.specs.Tasks.{read_task}
 use Rattle.priority_deques.specs.Tasks.{IsAtRest}
-use Rattle.join_board.specs.Handles.{knows}
+use Rattle.join_board.specs.Handles.{about, knows}
 use Rattle.join_board.specs.Jobs.{the_job}
 use Rattle.join_board.specs.Threads.{ended}
-use Rattle.steal_runtime.specs.Inside.Seats.{IsPublished, about}
+use Rattle.steal_runtime.specs.Inside.Seats.{IsPublished}
 use Rattle.steal_runtime.proofs.Seats.{has_seen}
 use Rattle.steal_runtime.proofs.Tasks.{all_rest, seen_steps}
 use Rattle.steal_runtime.proofs.advance.settle.Goals as goal

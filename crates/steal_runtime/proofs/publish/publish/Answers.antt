@@ -1,12 +1,11 @@
 use Rattle.std.proofs.Common.{◌+◌, length, sym, subst}
 use Rattle.trace_book.specs.Segments.{SegmentFields, read_segment}
 use Rattle.join_board.specs.Calls.{CanCommit, HasSeen}
-use Rattle.join_board.specs.Handles.{knows}
+use Rattle.join_board.specs.Handles.{about, knows}
 use Rattle.join_board.specs.Jobs.{the_job}
 use Rattle.join_board.specs.Logs.{CanWait, Each}
 use Rattle.join_board.specs.Threads.{ended}
 use Rattle.join_board.specs.declared.view.About.{About}
-use Rattle.steal_runtime.specs.Inside.Seats.{about}
 use Rattle.steal_runtime.proofs.Seats.{can_commit}
 use Rattle.steal_runtime.proofs.publish.publish.Goals as goal
 

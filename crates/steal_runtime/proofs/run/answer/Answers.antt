@@ -1,5 +1,5 @@
 use Rattle.std.proofs.Common.{arith}
-use Rattle.steal_runtime.specs.Inside.Seats.{about}
+use Rattle.join_board.specs.Handles.{about}
 use Rattle.steal_runtime.proofs.Ends.{all_seats, each_seat, past, whole}
 use Rattle.steal_runtime.proofs.run.answer.Goals as goal
 

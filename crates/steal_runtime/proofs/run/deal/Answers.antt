@@ -1,8 +1,9 @@
 use Rattle.std.proofs.Common.{rules, ◌≡◌, ◌<◌, sym, subst, Some}
 use Rattle.std.specs.List.{All}
 use Rattle.std.proofs.lemmas.List.Elements.{All-pop, All-push}
+use Rattle.join_board.specs.Handles.{about}
 use Rattle.steal_runtime.specs.declared.parts.Part.{Part}
-use Rattle.steal_runtime.specs.Inside.Seats.{Serves, Sits, about}
+use Rattle.steal_runtime.specs.Inside.Seats.{Serves, Sits}
 use Rattle.steal_runtime.proofs.run.deal.Goals as goal
 
 pub loop-end-preserved : goal.loop-end-preserved

@@ -1,8 +1,7 @@
 use Rattle.std.proofs.Common.{◌∙◌, subst, IfSome}
 use Rattle.task_state.specs.Tasks.{read_task}
-use Rattle.join_board.specs.Handles.{knows}
+use Rattle.join_board.specs.Handles.{about, knows}
 use Rattle.join_board.specs.Jobs.{the_job}
-use Rattle.steal_runtime.specs.Inside.Seats.{about}
 use Rattle.join_board.specs.Tasks.{CanRun}
 use Rattle.steal_runtime.proofs.Seats.{same_trans}
 use Rattle.steal_runtime.proofs.Tasks.{can_run_on}

@@ -1,9 +1,9 @@
 use Rattle.std.proofs.Common.{◌≡◌}
 use Rattle.task_state.specs.Tasks.{read_task}
 use Rattle.join_board.specs.Calls.{SameSeat}
-use Rattle.join_board.specs.Handles.{knows}
+use Rattle.join_board.specs.Handles.{about, knows}
 use Rattle.join_board.specs.Jobs.{the_job}
-use Rattle.steal_runtime.specs.Inside.Seats.{Sits, about}
+use Rattle.steal_runtime.specs.Inside.Seats.{Sits}
 use Rattle.join_board.specs.Tasks.{CanRun}
 use Rattle.steal_runtime.proofs.turn.turn.Given as goal
 

@@ -2,10 +2,12 @@
 
 use crate::laws::priml_steady;
 use crate::still::priml_still;
-use crate::top::priml;
+use crate::tests::{list_of, run};
 use priml_io::{MemSink, MemSource, SteadySink, SteadySource};
-use std::alloc::{AllocError, Global};
+use std::alloc::Global;
+use std::sync::Wait;
 use std::test::Fail;
+use std::thread::Threads;
 use steal_runtime::{Free, Meet};
 
 /// Sums in the background, and answers to what is typed.
@@ -40,6 +42,8 @@ main at ui : int {
 0: 3 4
 ";
 
+const RUN: [&str; 5] = ["run", "2", "2", "2", "100000"];
+
 /// Its report on two cores.
 const REPORT: &[u8] = b"thread 0 ui 21 value 2
 out 9 16
@@ -60,67 +64,64 @@ response 0.3 bg time 206 work 336 span 125 bound 230
 response 0.4 log time 208 work 342 span 128 bound 235
 ";
 
-fn list(alloc: Global, words: &[&str]) -> Result<Vec<String>, AllocError> {
-    let mut list = Vec::new(alloc);
-    for word in words {
-        list.push(String::from_str(alloc, word)?)?;
-    }
-    Ok(list)
+/// Runs `run 2 2 2 100000` over ends that never fail: the status and what was written.
+fn run_steady<R: Threads + Wait + Sync + Alloc<A = Global>>(rt: &R) -> Result<(u8, Vec<u8>), Fail> {
+    let words = list_of(rt.alloc(), &RUN)?;
+    let mut source = SteadySource::new(rt.alloc(), SUMS)?;
+    let mut sink = SteadySink::new(rt.alloc(), 1024)?;
+    let status = priml_steady(rt, rt.alloc(), &words, &mut source, &mut sink, &Free);
+    let written = Vec::from_slice(rt.alloc(), sink.bytes())?;
+    Ok((status, written))
+}
+
+/// What `priml_still` answers to these words, and what it wrote.
+fn run_still(alloc: Global, words: &[&str]) -> Result<(Option<u8>, Vec<u8>), Fail> {
+    let words = list_of(alloc, words)?;
+    let mut source = MemSource::new(alloc, SUMS, 65_536, &[0])?;
+    let mut sink = MemSink::new(alloc, 64, 1, &[0])?;
+    let status = priml_still(alloc, &words, &mut source, &mut sink);
+    Ok((status, Vec::from_slice(alloc, sink.bytes())?))
 }
 
 #[test]
 fn still_leaves_them_untouched(rt: HostRuntime) -> Result<(), Fail> {
     let cases: [&[&str]; 3] = [
-        &["run", "2", "2", "2", "100000"],
+        &RUN,
         &["trace", "2", "2", "100000"],
         &["sample", "3", "2", "2", "2", "100000"],
     ];
     for (number, words) in cases.iter().enumerate() {
-        let words = list(rt.alloc(), words)?;
-        let mut source = MemSource::new(rt.alloc(), SUMS, 65_536, &[0])?;
-        let mut sink = MemSink::new(rt.alloc(), 64, 1, &[0])?;
-        let status = priml_still(rt.alloc(), &words, &mut source, &mut sink);
+        let (status, written) = run_still(rt.alloc(), words)?;
         assert_eq!(rt; status, None, "case {number}");
-        assert_eq!(rt; sink.bytes(), b"".as_slice(), "case {number}");
+        assert!(rt; written.is_empty(), "case {number}");
     }
     Ok(())
 }
 
 #[test]
 fn two_workers_meet(rt: HostRuntime) -> Result<(), Fail> {
-    let words = list(rt.alloc(), &["run", "2", "2", "2", "100000"])?;
-    let mut source = MemSource::new(rt.alloc(), SUMS, 65_536, &[])?;
-    let mut sink = MemSink::new(rt.alloc(), 65_536, 65_536, &[])?;
     let meet = Meet::new(&rt);
-    let status = priml(&rt, rt.alloc(), &words, &mut source, &mut sink, &meet);
+    let (status, written) = run(&rt, &RUN, SUMS, &[], &[], &meet)?;
     assert_eq!(rt; status, 0);
-    assert_eq!(rt; sink.bytes(), REPORT);
-    assert!(rt; meet.met());
-    assert!(rt; !meet.ran_out());
+    assert_eq!(rt; written.as_slice(), REPORT);
+    assert!(rt; meet.met() && !meet.ran_out());
     Ok(())
 }
 
 #[test]
 fn a_sample_reads_nothing(rt: HostRuntime) -> Result<(), Fail> {
-    let words = list(rt.alloc(), &["sample", "1000", "4", "64", "2", "100000"])?;
-    let mut source = MemSource::new(rt.alloc(), SUMS, 65_536, &[0])?;
-    let mut sink = MemSink::new(rt.alloc(), 65_536, 65_536, &[])?;
-    let status = priml(&rt, rt.alloc(), &words, &mut source, &mut sink, &Free);
+    let words = ["sample", "1000", "4", "64", "2", "100000"];
+    let (status, written) = run(&rt, &words, SUMS, &[0], &[], &Free)?;
+    let want = b"sample 1000 threads 1002 work 10009 outputs 1001 steps 6007 value 1000\n";
     assert_eq!(rt; status, 0);
-    assert_eq!(rt;
-        sink.bytes(),
-        b"sample 1000 threads 1002 work 10009 outputs 1001 steps 6007 value 1000\n".as_slice()
-    );
+    assert_eq!(rt; written.as_slice(), want.as_slice());
     Ok(())
 }
 
 #[test]
 fn ends_that_never_fail(rt: HostRuntime) -> Result<(), Fail> {
-    let words = list(rt.alloc(), &["run", "2", "2", "2", "100000"])?;
-    let mut source = SteadySource::new(rt.alloc(), SUMS)?;
-    let mut sink = SteadySink::new(rt.alloc(), 65_536)?;
-    let status = priml_steady(&rt, rt.alloc(), &words, &mut source, &mut sink, &Free);
+    let (status, written) = run_steady(&rt)?;
     assert_eq!(rt; status, 0);
-    assert_eq!(rt; sink.bytes(), REPORT);
+    assert_eq!(rt; written.as_slice(), REPORT);
     Ok(())
 }

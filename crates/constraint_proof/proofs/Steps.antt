@@ -20,7 +20,7 @@ use Rattle.constraint_proof.specs.declared.derivation.Derivation.{Derivation}
 use Rattle.constraint_proof.specs.Entailed.{Constraint, Entailed, by_declared, by_assumed, by_reflexive, by_transitive, IsValid, AreValid, most_variables}
 use Rattle.constraint_proof.specs.Numbers.{number}
 use Rattle.constraint_proof.specs.Steps.{StepFits, IsAccepted}
-use Rattle.constraint_proof.specs.Search.{between, constraints, Table, is_free, free, IsReached, AllFit, Concludes, IsSearch, over, Followed, IsClosedTo, Went, Kept}
+use Rattle.constraint_proof.specs.Inside.Search.{between, constraints, Table, is_free, free, IsReached, AllFit, Concludes, IsSearch, over, Followed, IsClosedTo, Went, Kept}
 use Rattle.constraint_proof.proofs.Numbers.{Contains-map, Contains-map_from, same_number}
 use Rattle.constraint_proof.proofs.Sound.{accepted_derives}
 

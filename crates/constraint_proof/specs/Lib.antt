@@ -2,4 +2,4 @@ pub mod Entailed
 pub mod Numbers
 pub mod Facts
 pub mod Steps
-pub mod Search
+pub mod Inside

@@ -4,7 +4,7 @@ ghost use Rattle.priority_order.specs.Edges.{most_numbers};
 ghost use Rattle.constraint_proof.specs.Entailed.{AreValid, IsValid, Entailed, most_variables};
 ghost use Rattle.constraint_proof.specs.Numbers.{number};
 ghost use Rattle.constraint_proof.specs.Steps.{IsAccepted, StepFits};
-ghost use Rattle.constraint_proof.specs.Search.{constraints, IsReached, IsSearch, IsClosedTo, Followed, Went, Kept, over};
+ghost use Rattle.constraint_proof.specs.Inside.Search.{constraints, IsReached, IsSearch, IsClosedTo, Followed, Went, Kept, over};
 ghost use Rattle.constraint_proof.specs.declared.derivation.Step.{Step};
 
 use crate::derivation::{Derivation, Rule, Step};

@@ -6,7 +6,7 @@ use Rattle.priml_syntax.specs.Values.{Value', bool_value, left_value, right_valu
 use Rattle.core_steps.specs.declared.place.Turn.TheVariants.{First, Second}
 use Rattle.core_steps.specs.Expressions.{result_of}
 use Rattle.core_steps.specs.Fields.{FrameFields, LocalFields, running, body_at}
-use Rattle.core_steps.specs.Inside.Locals.{IsLeft, truth_in, side_in, Left, Right}
+use Rattle.core_steps.specs.Inside.Locals.{IsLeft, bool_in, side_in, Left, Right}
 use Rattle.core_steps.specs.Moves.{Goes}
 use Rattle.core_steps.specs.Inside.Moves.{CanStep, within_frame}
 use Rattle.core_steps.specs.Steps.{Job, Frame, Run, State, run_code, with_result, if_step, case_step}
@@ -33,13 +33,13 @@ module _ (job : Job) (l : LocalFields) (can : CanStep job l None) (mode : l.mode
       run_code job (at_end (if_tail at e a b) fs) (opened_at l.top (if_tail at e a b)) fs (if_tail at e a b) None ≡ if_step (at_end (if_tail at e a b) fs) (opened_at l.top (if_tail at e a b)) fs a b v
   if_gives at e a b v gives fs = ap (λ o. with_result (at_end (if_tail at e a b) fs) o (if_step (at_end (if_tail at e a b) fs) (opened_at l.top (if_tail at e a b)) fs a b)) gives
 
-  pub true_row : (at : ℕ) (e : Term) (a b : Code) (v : Value') → body_at job.program l.top ≡ Some (if_tail at e a b) → result_of l.top.scope e ≡ Some (returned v) → truth_in v ≡ Some true → Goes job l None Plain None (record l { top = within_frame l.top First })
+  pub true_row : (at : ℕ) (e : Term) (a b : Code) (v : Value') → body_at job.program l.top ≡ Some (if_tail at e a b) → result_of l.top.scope e ≡ Some (returned v) → bool_in v ≡ Some true → Goes job l None Plain None (record l { top = within_frame l.top First })
   true_row at e a b (bool_value true) body gives is =
       let c = if_tail at e a b in branch_row c a (within_frame l.top First) body (body_first job.program l.top c a l.top.scope body refl) (if_gives at e a b (bool_value true) gives)
   true_row at e a b (bool_value false) body gives is = absurd (cc)
   true_row at e a b v body gives is = absurd (cc)
 
-  pub false_row : (at : ℕ) (e : Term) (a b : Code) (v : Value') → body_at job.program l.top ≡ Some (if_tail at e a b) → result_of l.top.scope e ≡ Some (returned v) → truth_in v ≡ Some false → Goes job l None Plain None (record l { top = within_frame l.top Second })
+  pub false_row : (at : ℕ) (e : Term) (a b : Code) (v : Value') → body_at job.program l.top ≡ Some (if_tail at e a b) → result_of l.top.scope e ≡ Some (returned v) → bool_in v ≡ Some false → Goes job l None Plain None (record l { top = within_frame l.top Second })
   false_row at e a b (bool_value false) body gives is =
       let c = if_tail at e a b in branch_row c b (within_frame l.top Second) body (body_second job.program l.top c b l.top.scope body refl) (if_gives at e a b (bool_value false) gives)
   false_row at e a b (bool_value true) body gives is = absurd (cc)

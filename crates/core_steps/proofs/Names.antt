@@ -7,7 +7,7 @@ use Rattle.priml_syntax.specs.declared.expr.Op.TheVariants.{Add, Sub, Mul, Div, 
 use Rattle.priml_syntax.specs.declared.value.FaultKind.TheVariants.{Overflow}
 use Rattle.priml_syntax.specs.Tree.{Term, var, number, bool_term, unit_term, pair_term, first, second, left, right, binary, negated}
 use Rattle.priml_syntax.specs.Values.{Value', unit_value, bool_value, int_value, pair_value, left_value, right_value, thread_value, Outcome', returned, faulted}
-use Rattle.core_steps.specs.Expressions.{result_of, results_of, Results, AllGave, OneFault, one_more, with_one, with_two, gave, fits, divided, remainder, op_value, number_op, truth_op, fst_value, snd_value, not_value}
+use Rattle.core_steps.specs.Expressions.{result_of, results_of, Results, AllGave, OneFault, one_more, with_one, with_two, gave, fits, divided, remainder, op_value, number_op, bool_op, fst_value, snd_value, not_value}
 use Rattle.core_steps.specs.Steps.{Frame, Phase, Fresh, Run, Failing, Ended, thread_in}
 
 -- P holds of each thread that is named
@@ -125,14 +125,14 @@ module _ (P : List ℕ → Type 0) where
   number_names And a b = tt
   number_names Or a b = tt
 
-  truth_names : (op : Op) (a b : Bool) → OfGiven P (truth_op op a b)
-  truth_names And a b = tt
-  truth_names Or a b = tt
-  truth_names op a b = tt
+  bool_names : (op : Op) (a b : Bool) → OfGiven P (bool_op op a b)
+  bool_names And a b = tt
+  bool_names Or a b = tt
+  bool_names op a b = tt
 
   op_names : (op : Op) (v w : Value') → OfGiven P (op_value op v w)
   op_names op (int_value a) (int_value b) = number_names op a b
-  op_names op (bool_value a) (bool_value b) = truth_names op a b
+  op_names op (bool_value a) (bool_value b) = bool_names op a b
   op_names op v w = tt
 
   first_names : (v : Value') → OfValue P v → OfGiven P (fst_value v)

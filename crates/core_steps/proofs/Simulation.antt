@@ -161,8 +161,8 @@ module _ (job : Job) (d : ℕ) (ih : Simulates job d) (h : Here) (done : List En
   give_case at e ran (Some (faulted x)) q m = fault_here job d h done (ret_tail at e) scope ps fs ran t refl x (ap (λ z. with_result (state_at h (ret_tail at e) scope ps fs) z (back_to (state_at h (ret_tail at e) scope ps fs) fs)) q)
   give_case at e ran (Some (returned v)) q m = record { path = refl; longer = omega arith; grows = stay done; table = t; names = m; about = record { place = at; term = e; scope = scope; prios = ps; ran = ran; gives = q } }
 
-  branch_case : (at : ℕ) (e : Term) (a b : Code) → Ran job h.path h.events (state_at h (if_tail at e a b) scope ps fs) → IsResult job h done fs (suc d) (eval job (suc d) h done (if_tail at e a b) scope ps)
-  branch_case at e a b ran = value_case job d h done (if_tail at e a b) scope ps fs ran t refl (result_of scope e) _ _ refl (result_names (HasRecord done) scope e n) (λ v m w. go_on v w)
+  if_tail_case : (at : ℕ) (e : Term) (a b : Code) → Ran job h.path h.events (state_at h (if_tail at e a b) scope ps fs) → IsResult job h done fs (suc d) (eval job (suc d) h done (if_tail at e a b) scope ps)
+  if_tail_case at e a b ran = value_case job d h done (if_tail at e a b) scope ps fs ran t refl (result_of scope e) _ _ refl (result_names (HasRecord done) scope e n) (λ v m w. go_on v w)
     where
       go_on : (v : Value') → step job (state_at h (if_tail at e a b) scope ps fs) None ≡ if_step (state_at h (if_tail at e a b) scope ps fs) (record { code = if_tail at e a b; scope = scope; prios = ps }) fs a b v →
           IsResult job h done fs (suc d) (elim v [ bool_value c ↦ elim c [ true ↦ eval job d (noted h Plain) done (inside a) scope ps | false ↦ eval job d (noted h Plain) done (inside b) scope ps ] | _ ↦ Out ])
@@ -170,8 +170,8 @@ module _ (job : Job) (d : ℕ) (ih : Simulates job d) (h : Here) (done : List En
       go_on (bool_value false) w = moves_on job d ih h done (if_tail at e a b) scope ps fs ran t refl Plain (inside b) scope w n
       go_on v w = stuck job d h done (if_tail at e a b) scope ps fs ran t refl w
 
-  split_case : (at : ℕ) (e : Term) (a b : Code) → Ran job h.path h.events (state_at h (case_tail at e a b) scope ps fs) → IsResult job h done fs (suc d) (eval job (suc d) h done (case_tail at e a b) scope ps)
-  split_case at e a b ran = value_case job d h done (case_tail at e a b) scope ps fs ran t refl (result_of scope e) _ _ refl (result_names (HasRecord done) scope e n) go_on
+  case_tail_case : (at : ℕ) (e : Term) (a b : Code) → Ran job h.path h.events (state_at h (case_tail at e a b) scope ps fs) → IsResult job h done fs (suc d) (eval job (suc d) h done (case_tail at e a b) scope ps)
+  case_tail_case at e a b ran = value_case job d h done (case_tail at e a b) scope ps fs ran t refl (result_of scope e) _ _ refl (result_names (HasRecord done) scope e n) go_on
     where
       go_on : (v : Value') → OfValue (HasRecord done) v → step job (state_at h (case_tail at e a b) scope ps fs) None ≡ case_step (state_at h (case_tail at e a b) scope ps fs) (record { code = case_tail at e a b; scope = scope; prios = ps }) fs a b v →
           IsResult job h done fs (suc d) (cased v (λ w. eval job d (noted h Plain) done (inside a) (scope ++ w ∷ []) ps) (λ w. eval job d (noted h Plain) done (inside b) (scope ++ w ∷ []) ps))
@@ -318,8 +318,8 @@ module _ (job : Job) (d : ℕ) (ih : Simulates job d) (h : Here) (done : List En
       (ih (noted h' Plain) done' k (scope ++ w ∷ []) ps fs (alone r.about.ran refl (ap (λ o. with_result s o (back_to s (below ∷ fs))) r.about.gives) refl refl) (table_noted h' Plain done' r.table)
       (scope_push (HasRecord done') scope w (scope_map (HasRecord done) (HasRecord done') r.grows scope n) r.names))
 
-  run_case : (at : ℕ) (b : Code) (k : Body) → Ran job h.path h.events (state_at h (bind at (do_block b) k) scope ps fs) → IsResult job h done fs (suc d) (eval job (suc d) h done (bind at (do_block b) k) scope ps)
-  run_case at b k ran = block_case k (noted h Plain) refl (omega (arith, length_push h.events Plain)) (eval job d (noted h Plain) done (inside b) scope ps)
+  do_block_case : (at : ℕ) (b : Code) (k : Body) → Ran job h.path h.events (state_at h (bind at (do_block b) k) scope ps fs) → IsResult job h done fs (suc d) (eval job (suc d) h done (bind at (do_block b) k) scope ps)
+  do_block_case at b k ran = block_case k (noted h Plain) refl (omega (arith, length_push h.events Plain)) (eval job d (noted h Plain) done (inside b) scope ps)
       (ih (noted h Plain) done (inside b) scope ps (record { code = k; scope = scope; prios = ps } ∷ fs) (alone ran refl refl refl refl) (table_noted h Plain done t) n)
 
   call_case : (at f : ℕ) (qs : List Prio) (es : List Term) (k : Body) → Ran job h.path h.events (state_at h (bind at (call f qs es) k) scope ps fs) → IsResult job h done fs (suc d) (eval job (suc d) h done (bind at (call f qs es) k) scope ps)
@@ -337,13 +337,13 @@ out_of_fuel job h done c scope ps fs ran t n = λ never. long_here (state_at h c
 
 body_case : (job : Job) (d : ℕ) → Simulates job d → Simulates job (suc d)
 body_case job d ih h done (ret_tail at e) scope ps fs ran t n = give_case job d ih h done scope ps fs t n at e ran (result_of scope e) refl (result_names (HasRecord done) scope e n)
-body_case job d ih h done (if_tail at e a b) scope ps fs ran t n = branch_case job d ih h done scope ps fs t n at e a b ran
-body_case job d ih h done (case_tail at e a b) scope ps fs ran t n = split_case job d ih h done scope ps fs t n at e a b ran
+body_case job d ih h done (if_tail at e a b) scope ps fs ran t n = if_tail_case job d ih h done scope ps fs t n at e a b ran
+body_case job d ih h done (case_tail at e a b) scope ps fs ran t n = case_tail_case job d ih h done scope ps fs t n at e a b ran
 body_case job d ih h done (bind at (ret e) k) scope ps fs ran t n = ret_case job d ih h done scope ps fs t n at e k ran
 body_case job d ih h done (bind at (spawn p b) k) scope ps fs ran t n = spawn_case job d ih h done scope ps fs t n at p b k ran (may_spawn h) refl
 body_case job d ih h done (bind at (sync x) k) scope ps fs ran t n = sync_case job d ih h done scope ps fs t n at x k ran (thread_in (slice_get scope x)) refl
 body_case job d ih h done (bind at (call f qs es) k) scope ps fs ran t n = call_case job d ih h done scope ps fs t n at f qs es k ran
-body_case job d ih h done (bind at (do_block b) k) scope ps fs ran t n = run_case job d ih h done scope ps fs t n at b k ran
+body_case job d ih h done (bind at (do_block b) k) scope ps fs ran t n = do_block_case job d ih h done scope ps fs t n at b k ran
 body_case job d ih h done (bind at input k) scope ps fs ran t n = input_case job d ih h done scope ps fs t n at k ran (slice_get (inputs_of job.inputs h.path) h.reads) refl
 body_case job d ih h done (bind at (output e) k) scope ps fs ran t n = output_case job d ih h done scope ps fs t n at e k ran
 

@@ -44,15 +44,15 @@ number_op And a b = None
 number_op Or a b = None
 
 -- an operator on two truth values; none where it wants numbers
-abbrev pub truth_op : Op → Bool → Bool → Option Outcome'
-truth_op And a b = Some (returned (bool_value (a && b)))
-truth_op Or a b = Some (returned (bool_value (a || b)))
-truth_op op a b = None
+abbrev pub bool_op : Op → Bool → Bool → Option Outcome'
+bool_op And a b = Some (returned (bool_value (a && b)))
+bool_op Or a b = Some (returned (bool_value (a || b)))
+bool_op op a b = None
 
 -- an operator on two values; none at values of a wrong kind
 abbrev pub op_value : Op → Value' → Value' → Option Outcome'
 op_value op (int_value a) (int_value b) = number_op op a b
-op_value op (bool_value a) (bool_value b) = truth_op op a b
+op_value op (bool_value a) (bool_value b) = bool_op op a b
 op_value op v w = None
 
 abbrev pub fst_value : Value' → Option Outcome'

@@ -6,6 +6,7 @@ use Rattle.priml_syntax.specs.Values.{Value', unit_value, bool_value, int_value,
 use Rattle.priml_syntax.specs.declared.value.FaultKind.TheVariants.{Depth}
 use Rattle.priml_syntax.specs.declared.event.Event.{Event}
 use Rattle.priml_syntax.specs.declared.event.Event.TheVariants.{Start, Plain, Spawn, Join, Read, Wrote, End}
+use Rattle.priml_syntax.specs.Limits.{most_parts, most_children}
 use Rattle.priml_syntax.specs.Paths.{child_path, same_path, path_lt}
 use Rattle.core_steps.specs.Expressions.{result_of, Results, AllGave, OneFault, results_of}
 use Rattle.priml_syntax.specs.Inputs.{inputs_of}
@@ -93,7 +94,7 @@ cased (right_value v) f g = g v
 cased v f g = Out
 
 abbrev pub may_spawn : Here → Bool
-may_spawn h = nat_lt (length h.path) 32 && nat_lt h.children 4294967295
+may_spawn h = nat_lt (length h.path) most_parts && nat_lt h.children most_children
 
 -- what a block gives: code, values in scope, priorities. The fuel bounds the events along each chain of evaluation
 abbrev pub eval : Job → ℕ → Here → List Entry → Body → List Value' → List ℕ → Answer

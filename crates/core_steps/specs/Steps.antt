@@ -8,6 +8,7 @@ use Rattle.priml_syntax.specs.declared.event.Event.{Event}
 use Rattle.priml_syntax.specs.declared.event.Event.TheVariants.{Start, Plain, Spawn, Join, Read, Wrote, End}
 use Rattle.priml_syntax.specs.declared.prio.Prio.{Prio}
 use Rattle.priml_syntax.specs.declared.prio.Prio.TheVariants.{Const, Var}
+use Rattle.priml_syntax.specs.Limits.{most_parts, most_children}
 use Rattle.priml_syntax.specs.Paths.{child_path}
 use Rattle.core_steps.specs.Expressions.{result_of, Results, AllGave, OneFault, results_of}
 use Rattle.priml_syntax.specs.Inputs.{inputs_of}
@@ -89,7 +90,7 @@ new_thread path prio t = record { path = path; prio = prio; reads = 0; children 
 
 abbrev pub spawn_step : State → Frame → List Frame → Prio → Code → Body → Option Moved
 spawn_step s t fs p b k =
-    if nat_lt (length s.path) 32 && nat_lt s.children 4294967295
+    if nat_lt (length s.path) most_parts && nat_lt s.children most_children
     then Some (record {
       event = Spawn;
       next = record s { children = s.children + 1; phase = Run (bound t k (thread_value (child_path s.path s.children) (prio_of t.prios p))) fs };

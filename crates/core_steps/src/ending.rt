@@ -9,7 +9,7 @@ ghost use Rattle.core_steps.specs.Moves.{read_job};
 ghost use Rattle.core_steps.specs.Inside.Moves.{CanStep};
 
 use crate::given::Given;
-use crate::kinds::{Sided, side, truth};
+use crate::kinds::{Sided, boolean, side};
 use crate::local::{Local, Made, without_child};
 use crate::place::Turn;
 use priml_syntax::{Block, Event, Expr, Outcome, TailForm};
@@ -32,14 +32,14 @@ impl Local {
         ensures kept { OnErr result (read_local self.new ≡ read_local self.old) }
     {
         match form {
-            TailForm::Ret(expr) => self.give(alloc, job, expr),
-            TailForm::If(expr, a, b) => self.choose(alloc, job, expr, a, b),
-            TailForm::Case(expr, a, b) => self.split(alloc, job, expr, a, b),
+            TailForm::Ret(expr) => self.ret_tail(alloc, job, expr),
+            TailForm::If(expr, a, b) => self.if_tail(alloc, job, expr, a, b),
+            TailForm::Case(expr, a, b) => self.case_tail(alloc, job, expr, a, b),
         }
     }
 
     // The value of a block goes to the frame below, or ends the thread.
-    fn give(&mut self, alloc: Global, job: &Job, expr: &Expr) -> Result<Made, AllocError>
+    fn ret_tail(&mut self, alloc: Global, job: &Job, expr: &Expr) -> Result<Made, AllocError>
         requires can { CanStep (read_job job.now) (read_local self.old) None }
         requires mode { read_mode self.old.mode ≡ running }
         requires ending { (at : ℕ) × (body_at (read_job job.now).program (read_frame self.old.top) ≡ Some (ret_tail at (read_term expr.now))) }
@@ -62,7 +62,7 @@ impl Local {
     }
 
     // Goes on in the block that a condition chooses.
-    fn choose(
+    fn if_tail(
         &mut self,
         alloc: Global,
         job: &Job,
@@ -79,7 +79,7 @@ impl Local {
         ensures kept { OnErr result (read_local self.new ≡ read_local self.old) }
     {
         match self.top.given(alloc, expr)? {
-            Given::Value(value) => match truth(&value) {
+            Given::Value(value) => match boolean(&value) {
                 Some(true) => {
                     self.branch(Turn::First)?;
                     Ok(without_child(Event::Plain))
@@ -96,7 +96,7 @@ impl Local {
     }
 
     // Goes on in the block for the side of a sum, with what was inside.
-    fn split(
+    fn case_tail(
         &mut self,
         alloc: Global,
         job: &Job,

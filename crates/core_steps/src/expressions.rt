@@ -9,7 +9,7 @@ ghost use Rattle.core_steps.specs.Results.{read_result};
 ghost use Rattle.core_steps.specs.Inside.Results.{GiveNumbers, read_results, collected, with_last, one_with, two_with};
 
 use crate::kinds::number;
-use crate::numbers::{on_numbers, on_truths, truth};
+use crate::numbers::{bool_outcome, on_bools, on_numbers};
 use priml_syntax::{Expr, ExprForm, FaultKind, Op, Outcome, Value};
 use std::alloc::{AllocError, Global};
 
@@ -227,7 +227,7 @@ fn negated(a: Option<Outcome>) -> Option<Outcome>
     ensures { read_result result ≡ with_one (read_result a) not_value }
 {
     match one(a) {
-        Ok(Value::Bool(b)) => Some(truth(!b)),
+        Ok(Value::Bool(b)) => Some(bool_outcome(!b)),
         Ok(_) => None,
         Err(other) => other,
     }
@@ -248,7 +248,7 @@ fn operate(op: Op, v: &Value, w: &Value) -> Option<Outcome>
 {
     match (v, w) {
         (Value::Int(m), Value::Int(n)) => on_numbers(op, *m, *n),
-        (Value::Bool(b), Value::Bool(c)) => on_truths(op, *b, *c),
+        (Value::Bool(b), Value::Bool(c)) => on_bools(op, *b, *c),
         _ => None,
     }
 }

@@ -2,7 +2,7 @@
 
 ghost use Rattle.std.specs.Prelude.{◌≡◌};
 ghost use Rattle.priml_syntax.specs.Read.{read_value};
-ghost use Rattle.core_steps.specs.Inside.Locals.{number_in, truth_in, side_in, IsSide};
+ghost use Rattle.core_steps.specs.Inside.Locals.{number_in, bool_in, side_in, IsSide};
 
 use priml_syntax::Value;
 
@@ -15,8 +15,8 @@ pub(crate) fn number(value: &Value) -> Option<i64>
     }
 }
 
-pub(crate) fn truth(value: &Value) -> Option<bool>
-    ensures { result ≡ truth_in (read_value value.now) }
+pub(crate) fn boolean(value: &Value) -> Option<bool>
+    ensures { result ≡ bool_in (read_value value.now) }
 {
     match value {
         Value::Bool(b) => Some(*b),

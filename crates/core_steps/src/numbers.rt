@@ -4,7 +4,7 @@ ghost use Rattle.std.specs.Prelude.{◌≡◌, ℤ, SomeIff, FitsSigned};
 ghost use Rattle.std.specs.Int.{w64};
 ghost use Rattle.priml_syntax.specs.Read.{read_outcome};
 ghost use Rattle.priml_syntax.specs.Values.{returned, bool_value};
-ghost use Rattle.core_steps.specs.Expressions.{checked, divided, remainder, number_op, truth_op};
+ghost use Rattle.core_steps.specs.Expressions.{checked, divided, remainder, number_op, bool_op};
 ghost use Rattle.core_steps.specs.Results.{read_result};
 
 use priml_syntax::{FaultKind, Op, Outcome, Value};
@@ -19,26 +19,26 @@ pub(crate) fn on_numbers(op: Op, a: i64, b: i64) -> Option<Outcome>
         Op::Mul => Some(within_range(a.checked_mul(b))),
         Op::Div => Some(quotient(a, b)),
         Op::Rem => Some(rest(a, b)),
-        Op::Less => Some(truth(a < b)),
-        Op::AtMost => Some(truth(a <= b)),
-        Op::Equal => Some(truth(a == b)),
+        Op::Less => Some(bool_outcome(a < b)),
+        Op::AtMost => Some(bool_outcome(a <= b)),
+        Op::Equal => Some(bool_outcome(a == b)),
         Op::And | Op::Or => None,
     }
 }
 
 /// What an operator gives at two truth values; None where it wants numbers.
-pub(crate) fn on_truths(op: Op, a: bool, b: bool) -> Option<Outcome>
-    ensures { read_result result ≡ truth_op op a b }
+pub(crate) fn on_bools(op: Op, a: bool, b: bool) -> Option<Outcome>
+    ensures { read_result result ≡ bool_op op a b }
 {
     match op {
-        Op::And => Some(truth(a && b)),
-        Op::Or => Some(truth(a || b)),
+        Op::And => Some(bool_outcome(a && b)),
+        Op::Or => Some(bool_outcome(a || b)),
         _ => None,
     }
 }
 
 /// The outcome that is a truth value.
-pub(crate) fn truth(b: bool) -> Outcome
+pub(crate) fn bool_outcome(b: bool) -> Outcome
     ensures { read_outcome result ≡ returned (bool_value b) }
 {
     Outcome::Value(Value::Bool(b))

@@ -18,6 +18,10 @@ vertex_total g = length g.parents
 abbrev pub thread_total : CostGraph → ℕ
 thread_total g = length g.threads
 
+-- the most that threads times vertices may be where each thread looks at each vertex
+abbrev pub most_looks : ℕ
+most_looks = 134217728
+
 abbrev pub parents_at : CostGraph → ℕ → List ℕ
 parents_at g v = get_or g.parents v []
 

@@ -5,10 +5,6 @@ use Rattle.cost_graph.specs.Graph.{CostGraph, thread_total, thread_at, vertex_pr
 use Rattle.cost_graph.specs.declared.stop.Shape.{Shape}
 use Rattle.cost_graph.specs.declared.stop.Shape.TheVariants.{Good, Bad}
 
--- the most that threads times vertices may be
-abbrev pub most_looks : ℕ
-most_looks = 134217728
-
 -- u is an ancestor of the last vertex of thread t and not of its first, and the thread's priority is not at most u's
 pub record IsUnfit (g : CostGraph) (pairs : List (ℕ × ℕ)) (t u : ℕ) : Type 0 where
   pub above : IsAncestor g u (last_vertex g t)

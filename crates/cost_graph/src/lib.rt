@@ -21,6 +21,6 @@ pub use graph::{Graph, Thread};
 pub use laws::some_graph;
 pub use order::{has_cycle, topological};
 pub use reachability::{ancestors, descendants};
-pub use shape::well_formed;
+pub use shape::{MOST_LOOKS, well_formed};
 pub use stop::{GraphStop, GraphStop as ShapeStop, Shape};
 pub use text::push_vertex;

@@ -3,9 +3,9 @@ ghost use Rattle.std.specs.Prelude.{◌≡◌, ◌*◌, ◌<◌, ◌≤◌, ◌�
 ghost use Rattle.std.specs.List.{All};
 ghost use Rattle.cost_graph.specs.declared.graph.Thread.{Thread as TheThread};
 ghost use Rattle.cost_graph.specs.declared.stop.GraphStop.TheVariants.{TooLarge};
-ghost use Rattle.cost_graph.specs.Graph.{vertex_total, thread_total, first_vertex, last_vertex, IsAcyclic, IsAncestor, IsProperAncestor, IsWellFormed, IsThreadWellFormed};
+ghost use Rattle.cost_graph.specs.Graph.{most_looks, vertex_total, thread_total, first_vertex, last_vertex, IsAcyclic, IsAncestor, IsProperAncestor, IsWellFormed, IsThreadWellFormed};
 ghost use Rattle.cost_graph.specs.Order.{IsTopological, AreMarked};
-ghost use Rattle.cost_graph.specs.Shape.{most_looks, IsShape, IsUnfit, IsFirstUnfit};
+ghost use Rattle.cost_graph.specs.Shape.{IsShape, IsUnfit, IsFirstUnfit};
 ghost use Rattle.cost_graph.specs.Inside.Shape.{IsFit};
 
 use crate::graph::Graph;
@@ -14,6 +14,9 @@ use crate::reachability::ancestors;
 use crate::stop::{GraphStop, Shape};
 use priority_order::Order;
 use std::alloc::{AllocError, Global};
+
+/// The most that threads times vertices may be where each thread looks at each vertex.
+pub const MOST_LOOKS: u64 = 134_217_728;
 
 /// Whether the graph is well formed over the order, or the first thread for which it is not, with its first vertex
 /// that shows it. The graph has no cycle, and the priorities of its threads are below the order's count. TooLarge
@@ -27,7 +30,7 @@ pub fn well_formed(alloc: Global, graph: &Graph, order: &Order) -> Result<Shape,
     ensures large { result ≡ Err TooLarge → most_looks < thread_total graph.now * vertex_total graph.now }
     ensures exact { most_looks < thread_total graph.now * vertex_total graph.now → result ≡ Err TooLarge }
 {
-    if u64::from(graph.thread_count()) * u64::from(graph.vertex_count()) > 134_217_728 {
+    if u64::from(graph.thread_count()) * u64::from(graph.vertex_count()) > MOST_LOOKS {
         return Err(GraphStop::TooLarge);
     }
     Ok(shape_of(alloc, graph, order)?)

@@ -5,7 +5,7 @@ use Rattle.std.specs.declared.vec.Vec.{Vec}
 use Rattle.priml_io.proofs.Found.{items_of, has_items, found_at, found_nowhere, added}
 use Rattle.priml_syntax.specs.Inputs.{IsNoneOf}
 use Rattle.inputs_text.specs.Inputs.{HasPath}
-use Rattle.inputs_text.specs.Forms.{AddsPath, paths_of}
+use Rattle.inputs_text.specs.Inside.Forms.{AddsPath, paths_of}
 
 -- a path that is found is known
 pub known_path : {Z : Type 0} (keys : List (Vec ℕ Z)) (path : List ℕ) (k : ℕ) → position (has_items path) keys ≡ Some k → AddsPath (map items_of keys) path false (map items_of keys)

@@ -9,7 +9,7 @@ use Rattle.inputs_text.specs.declared.inputs.InputFault.TheVariants as fault
 use Rattle.inputs_text.specs.PathText.{Pairwise}
 use Rattle.inputs_text.specs.InputLines.{IsInputLine}
 use Rattle.inputs_text.specs.Inputs.{present, HasPath, IsInputs, IsFaultAt, IsFirstFault, HasInputFault, ReadsOneWay}
-use Rattle.inputs_text.specs.Forms.{AddsLine, StopsAt}
+use Rattle.inputs_text.specs.Inside.Forms.{AddsLine, StopsAt}
 use Rattle.inputs_text.proofs.Pairs.{pairs-more, pairs-one, pairs-parted}
 use Rattle.inputs_text.proofs.LineForms.{line-one}
 use Rattle.inputs_text.proofs.SplitLines.{Ends}

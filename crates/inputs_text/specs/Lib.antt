@@ -1,4 +1,4 @@
-pub mod Forms
 pub mod InputLines
 pub mod Inputs
 pub mod PathText
+pub mod Inside

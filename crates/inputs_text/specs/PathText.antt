@@ -1,6 +1,7 @@
 -- The text of a path: its numbers with dots between.
 use Rattle.std.specs.Prelude.{◌≡◌, ℕ, ◌^◌, ◌<◌, ◌≤◌, ◌==◌, List, [], ◌∷◌, length, slice_index}
 use Rattle.std.specs.List.{slice_split}
+use Rattle.priml_syntax.specs.Limits.{most_parts}
 use Rattle.priml_io.specs.Words.{IsDigits, value_of}
 
 -- two lists of one length, and R holds of the items at each place
@@ -21,8 +22,8 @@ pub record IsPartText (text : List ℕ) (n : ℕ) : Type 0 where
 abbrev pub between_dots : List ℕ → List (List ℕ)
 between_dots text = slice_split (λ b. b == 46) text
 
--- a path: at most 32 parts with a dot between, and the first, the number of its root, is at most `last`
+-- a path: its parts with a dot between, and the first, the number of its root, is at most `last`
 pub record IsPathText (last : ℕ) (text path : List ℕ) : Type 0 where
   pub parts : Pairwise IsPartText (between_dots text) path
   pub root : slice_index path 0 ≤ last
-  pub few : length path ≤ 32
+  pub few : length path ≤ most_parts

@@ -3,7 +3,7 @@ ghost use Rattle.std.specs.Prelude.{◌≡◌, ◌+◌, ◌<◌, ◌∷◌, ◌+
 ghost use Rattle.priml_io.specs.Lines.{lines};
 ghost use Rattle.priml_syntax.specs.Inputs.{read_lists as lists_of};
 ghost use Rattle.inputs_text.specs.Inputs.{AreInputs, IsInputs, HasInputFault, ReadsOneWay};
-ghost use Rattle.inputs_text.specs.Forms.{paths_in, paths_of, AddsPath, AddsLine, StopsAt};
+ghost use Rattle.inputs_text.specs.Inside.Forms.{paths_in, paths_of, AddsPath, AddsLine, StopsAt};
 
 use crate::line::{Line, read_line};
 use indexmap::IndexSet;

@@ -1,7 +1,7 @@
 //! One line of the inputs.
 ghost use Rattle.std.specs.Prelude.{◌≢◌, List, ℤ, None, All, IfOk, MatchOption, MatchBool};
 ghost use Rattle.inputs_text.specs.InputLines.{IsValue, IsNegated, IsNumberText, AreNumbers, IsInputLine, IsCutAtColon};
-ghost use Rattle.inputs_text.specs.Forms.{HasForm};
+ghost use Rattle.inputs_text.specs.Inside.Forms.{HasForm};
 
 use crate::path::read_path;
 use priml_io::{are_blank, capped_value, is_blank, is_digits};

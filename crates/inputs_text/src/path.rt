@@ -1,9 +1,10 @@
 //! The text of a path.
 ghost use Rattle.std.specs.Prelude.{◌≡◌, ◌≢◌, ◌<◌, ◌≤◌, List, ℕ, length, slice_index, IfOk, MatchOption, MatchBool};
+ghost use Rattle.priml_syntax.specs.Limits.{most_parts};
 ghost use Rattle.inputs_text.specs.PathText.{Pairwise, between_dots, IsPartText, IsPathText};
 
 use priml_io::{capped_value, is_digits};
-use priml_syntax::Path;
+use priml_syntax::{MOST_PARTS, Path};
 use std::alloc::{AllocError, Global};
 
 /// Reads a path: at most 32 numbers below 2 to the 32, the first of them, its root, at most `last`, in decimal digits
@@ -23,12 +24,13 @@ pub fn read_path(alloc: Global, text: &[u8], last: u32) -> Result<Option<Path>, 
 /// Whether these parts, at least one, are a path's.
 fn is_path(parts: &[u32], last: u32) -> bool
     requires { 0 < length parts.now }
-    ensures { MatchBool result ((slice_index parts.now 0 ≤ last) × (length parts.now ≤ 32)) (¬ ((slice_index parts.now 0 ≤ last) × (length parts.now ≤ 32))) }
+    ensures { MatchBool result ((slice_index parts.now 0 ≤ last) × (length parts.now ≤ most_parts))
+        (¬ ((slice_index parts.now 0 ≤ last) × (length parts.now ≤ most_parts))) }
 {
     if parts[0] > last {
         return false;
     }
-    parts.len() <= 32
+    parts.len() <= MOST_PARTS
 }
 
 fn read_parts(alloc: Global, text: &[u8]) -> Result<Option<Vec<u32>>, AllocError>
@@ -36,7 +38,7 @@ fn read_parts(alloc: Global, text: &[u8]) -> Result<Option<Vec<u32>>, AllocError
         (λ v. Pairwise IsPartText (between_dots text.now) v.items)) }
 {
     // a part takes two bytes, but for the last
-    let mut parts = Vec::with_capacity(alloc, (text.len() / 2 + 1).min(32))?;
+    let mut parts = Vec::with_capacity(alloc, (text.len() / 2 + 1).min(MOST_PARTS))?;
     for part in text.split(|b| *b == b'.') {
         let Some(number) = read_part(part) else {
             return Ok(None);

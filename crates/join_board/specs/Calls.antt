@@ -1,10 +1,11 @@
 -- The clauses of the calls.
-use Rattle.std.specs.Prelude.{◌≡◌, ◌≢◌, ℕ, ◌+◌, ◌<◌, ◌≤◌, ◌^◌, ◌⊎◌, List, [], ◌∷◌, ◌++◌, length, Bool}
+use Rattle.std.specs.Prelude.{◌≡◌, ◌≢◌, ℕ, ◌+◌, ◌<◌, ◌≤◌, ◌⊎◌, List, [], ◌∷◌, ◌++◌, length, Bool}
 use mathlib.Core.Option.{some}
 use lib.ListN.{get_elem?}
 use Rattle.priml_syntax.specs.Events.{AllJoins}
 use Rattle.trace_book.specs.Segments.{SegmentFields, read_segment}
 use Rattle.task_state.specs.Segments.{IsSegmentOf}
+use Rattle.task_state.specs.Tasks.{most_steps}
 use Rattle.task_state.specs.declared.task.Task.{Task}
 use Rattle.join_board.specs.Entries.{Entry}
 use Rattle.join_board.specs.Jobs.{the_job}
@@ -70,7 +71,7 @@ Committed v s (Done ts) w =
     × (w.uncounted ≡ v.uncounted + length s.events)
     × HandsOut v s ts.items w
     × HasSeen w s.path (s.from + length s.events) (ended s.events)
-Committed v s (Full t) w = (read_segment t ≡ s) × (w ≡ v) × (2 ^ 59 < v.own + length s.events)
+Committed v s (Full t) w = (read_segment t ≡ s) × (w ≡ v) × (most_steps < v.own + length s.events)
 Committed v s (Busy t) w = (read_segment t ≡ s) × WasBusy v s.path w × NoWork v w
 Committed v s (Stale t n) w =
     (read_segment t ≡ s)

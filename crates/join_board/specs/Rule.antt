@@ -8,7 +8,7 @@ use Rattle.priml_syntax.specs.Read.{read_outcome}
 use Rattle.core_steps.specs.Config.{Thread, Reached}
 use Rattle.core_steps.specs.Determined.{IsIn, events_of, steps_of, unended}
 use Rattle.task_state.specs.declared.task.Task.{Task}
-use Rattle.task_state.specs.Tasks.{TaskKey}
+use Rattle.task_state.specs.Tasks.{TaskKey, most_steps}
 use Rattle.join_board.specs.Entries.{Entry}
 use Rattle.join_board.specs.Jobs.{the_job}
 use Rattle.join_board.specs.Threads.{PrioOf, outcome_at}
@@ -58,7 +58,7 @@ pub record KeepsLogs (key : About) (shards : List (List Entry)) (c : List Thread
 
 -- rule 5; a view that stands for no seat has asked for nothing
 abbrev pub SeatTrue : About → View → Type 0
-SeatTrue key v = (0 < v.seats → v.about ≡ key) × (v.own ≤ v.seats * 2 ^ 59) × (v.seats ≡ 0 → v.stop.asked_memory ≡ 0)
+SeatTrue key v = (0 < v.seats → v.about ≡ key) × (v.own ≤ v.seats * most_steps) × (v.seats ≡ 0 → v.stop.asked_memory ≡ 0)
 
 pub record KeepsSeats (key : About) (work : ℕ) (views : List View) : Type 0 where
   pub each : Each (SeatTrue key) views

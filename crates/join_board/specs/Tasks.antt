@@ -1,8 +1,8 @@
 -- Tasks whose steps a seat can publish.
-use Rattle.std.specs.Prelude.{◌≡◌, ℕ, ◌+◌, ◌≤◌, ◌^◌, List, [], length, false, None}
+use Rattle.std.specs.Prelude.{◌≡◌, ℕ, ◌+◌, ◌≤◌, List, [], length, false, None}
 use Rattle.core_steps.specs.Steps.{Job}
 use Rattle.trace_book.specs.Segments.{SegmentFields}
-use Rattle.task_state.specs.Tasks.{TaskFields, OfJob, IsStart, has_ended, read_task}
+use Rattle.task_state.specs.Tasks.{TaskFields, OfJob, IsStart, has_ended, read_task, most_steps}
 use Rattle.task_state.specs.Turns.{WasFed}
 use Rattle.task_state.specs.declared.task.Halt.{Halt}
 use Rattle.task_state.specs.declared.task.Halt.TheVariants.{Spawned}
@@ -20,7 +20,7 @@ pub record CanRun (job : Job) (v : View) (t : TaskFields) : Type 0 where
   pub task : OfJob job t
   pub pending : t.pending ≡ []
   pub live : has_ended t ≡ false
-  pub room : t.local.steps ≤ 2 ^ 59
+  pub room : t.local.steps ≤ most_steps
   pub fed : (b : List ℕ) → WasFed t b → HasSeenEnd v b
 
 -- the second has not started, its thread was spawned by one of the steps of the first, and has this priority

@@ -1,7 +1,8 @@
 //! Steps of a thread are published.
-ghost use Rattle.std.specs.Prelude.{◌≡◌, ◌+◌, ◌<◌, ◌^◌, ◌∷◌, [], false, cond, length, None, is_some};
+ghost use Rattle.std.specs.Prelude.{◌≡◌, ◌+◌, ◌<◌, ◌∷◌, [], false, cond, length, None, is_some};
 ghost use Rattle.priml_syntax.specs.Events.{spawns, ends};
 ghost use Rattle.trace_book.specs.Segments.{read_segment};
+ghost use Rattle.task_state.specs.Tasks.{most_steps};
 ghost use Rattle.join_board.specs.Threads.{is_spawn, spawned_last};
 ghost use Rattle.join_board.specs.Inside.Views.{ahead_view, settled_view};
 ghost use Rattle.join_board.specs.Inside.Plays.{Grew_by};
@@ -14,7 +15,7 @@ use crate::rule::{Place, Top};
 use crate::shard::{Shard, shard_of};
 use priml_syntax::Event;
 use std::alloc::Global;
-use task_state::Task;
+use task_state::{MOST_STEPS, Task};
 use trace_book::Segment;
 
 /// What became of a segment.
@@ -31,9 +32,6 @@ pub enum Commit {
     /// Want of memory.
     OutOfMemory(Segment),
 }
-
-// 2^59.
-const MOST: u64 = 576460752303423488;
 
 // Whether the last event is a Spawn.
 fn spawns_last(events: &[Event]) -> bool
@@ -74,10 +72,10 @@ impl Board {
         requires segment { CanCommit (knows seat.old) (read_segment segment) }
         ensures seat { IsSeatOf self.now seat.new × SameSeat (knows seat.old) (knows seat.new) }
         ensures answer { Committed (knows seat.old) (read_segment segment) result (knows seat.new) }
-        ensures full { 2 ^ 59 < (knows seat.old).own + length segment.events.items → IsFull result }
+        ensures full { most_steps < (knows seat.old).own + length segment.events.items → IsFull result }
     {
         let length = segment.events.len() as u64;
-        if length > MOST || seat.steps > MOST - length {
+        if length > MOST_STEPS || seat.steps > MOST_STEPS - length {
             return Commit::Full(segment);
         }
         let shard = shard_of(&segment.path);

@@ -28,7 +28,7 @@ use Rattle.type_rules.proofs.TypesDecided.{each_decided}
 use Rattle.core_steps.specs.Meaning.{Meaning, meaning, Finished, Over}
 use Rattle.core_steps.specs.Steps.{Job}
 use Rattle.priority_order.specs.Order.{Names}
-use Rattle.cost_graph.specs.Graph.{CostGraph, thread_total, vertex_total, IsVertexBelow}
+use Rattle.cost_graph.specs.Graph.{CostGraph, most_looks, thread_total, vertex_total, IsVertexBelow}
 use Rattle.cost_graph.specs.Records.{parts_of, IsGraphOf}
 use Rattle.cost_graph.specs.Text.{graph_lines}
 use Rattle.prompt_checker.specs.Schedule.{IsPrompt}
@@ -41,7 +41,6 @@ use Rattle.prompt_checker.proofs.ReadLines.{steps-below}
 use Rattle.prompt_checker.proofs.VerdictDecided.{all_judged}
 use Rattle.prompt_planner.proofs.CanonicalPrompt.{canonical_prompt}
 use Rattle.prompt_planner.proofs.SomePlan.{canonical_some}
-use Rattle.response_report.specs.Response.{limit}
 use Rattle.response_report.proofs.SomeRows.{rows_some}
 use Rattle.priml.specs.Chain.{Answer}
 use Rattle.priml.specs.Commands.{WithProgram, WithRecords, WithGraph, Reports, Planned, Judged, Sampled, Of}
@@ -95,7 +94,7 @@ run_decides job most = go (meaning job most) refl where
   go (Finished rs) e = inl (rs, e)
 
 small_decides : (g : CostGraph) → Decides (the.small g)
-small_decides g = elim (cases_lt limit (thread_total g * vertex_total g)) [ inl large ↦ inr (tt, large) | inr small ↦ inl (tt, small) ]
+small_decides g = elim (cases_lt most_looks (thread_total g * vertex_total g)) [ inl large ↦ inr (tt, large) | inr small ↦ inl (tt, small) ]
 
 prompt_decides : (pairs : List (ℕ × ℕ)) (g : CostGraph) (cores : ℕ) (steps : List (List ℕ)) → All (λ step. All (λ v. v < vertex_total g) step) steps → Decides (the.prompt pairs g cores steps)
 prompt_decides pairs g cores steps within = go (all_judged g pairs cores steps within) where

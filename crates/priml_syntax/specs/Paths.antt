@@ -1,10 +1,11 @@
 -- Paths of threads, as lists of numbers, and their two orders.
 use Rattle.std.specs.Prelude.{◌≡◌, ◌⊎◌, ℕ, ◌<◌, ◌≤◌, List, [], ◌∷◌, ◌++◌, length, Bool, true, false, ◌&&◌, nat_lt, eqb, if◌then◌else◌}
+use Rattle.priml_syntax.specs.Limits.{most_parts}
 
 -- a path has 1 to 32 parts
 pub record IsPath (p : List ℕ) : Type 0 where
   pub some : 0 < length p
-  pub few : length p ≤ 32
+  pub few : length p ≤ most_parts
 
 -- the k-th thread that p spawns
 abbrev pub child_path : List ℕ → ℕ → List ℕ

@@ -5,6 +5,7 @@ use Rattle.priml_syntax.specs.declared.prio.Prio.{Prio}
 use Rattle.priml_syntax.specs.declared.prio.Prio.TheVariants.{Const, Var}
 use Rattle.priml_syntax.specs.Tree.{Type', unit, bool, int, pair, sum, thread, Term, var, number, bool_term, unit_term, pair_term, first, second, left, right, binary, negated, Code, block, Body, bind, ret_tail, if_tail, case_tail, Act, ret, spawn, sync, call, do_block, input, output, Constraint, Routine, Tree, Declared}
 use Rattle.priml_syntax.specs.Size.{type_nodes}
+use Rattle.priml_syntax.specs.Limits.{most_priorities, most_pairs, most_procedures, most_nodes, most_in_scope, most_priority_variables, most_constraints, most_parameters}
 
 -- how many priorities are declared, how many priority variables there are, and how many procedures
 pub record NameCounts : Type 0 where
@@ -31,9 +32,9 @@ TypeIn s (pair a b) = TypeIn s a × TypeIn s b
 TypeIn s (sum a b) = TypeIn s a × TypeIn s b
 TypeIn s (thread p a) = PrioIn s p × TypeIn s a
 
--- a type as it is written: in scope, of at most 16 nodes
+-- a type as it is written: in scope, and not too large
 abbrev pub Written : NameCounts → Type' → Type 0
-Written s t = TypeIn s t × (type_nodes t ≤ 16)
+Written s t = TypeIn s t × (type_nodes t ≤ most_nodes)
 
 -- each variable is one of the n in scope, and each type is in scope as it is written
 abbrev pub TermIn : NameCounts → ℕ → Term → Type 0
@@ -59,12 +60,12 @@ abbrev mutual
   pub CodeIn : Code → NameCounts → ℕ → Type 0
   CodeIn (block at b) s n = BodyIn b s n
 
-  -- what is left of a block; at most 32 variables are in scope anywhere
+  -- what is left of a block; nowhere are too many variables in scope
   pub BodyIn : Body → NameCounts → ℕ → Type 0
-  BodyIn (bind at a rest) s n = ActIn a s n × (n < 32) × BodyIn rest s (n + 1)
+  BodyIn (bind at a rest) s n = ActIn a s n × (n < most_in_scope) × BodyIn rest s (n + 1)
   BodyIn (ret_tail at e) s n = TermIn s n e
   BodyIn (if_tail at e a b) s n = TermIn s n e × CodeIn a s n × CodeIn b s n
-  BodyIn (case_tail at e a b) s n = TermIn s n e × (n < 32) × CodeIn a s (n + 1) × CodeIn b s (n + 1)
+  BodyIn (case_tail at e a b) s n = TermIn s n e × (n < most_in_scope) × CodeIn a s (n + 1) × CodeIn b s (n + 1)
 
   -- an action: variables, priorities and procedures are in scope
   pub ActIn : Act → NameCounts → ℕ → Type 0
@@ -82,10 +83,10 @@ scope_in p f = record { prios = length p.names; vars = f.declares.vars; procs = 
 
 -- a procedure that keeps its limits, with all that it names in scope
 pub record RoutineIn (p : Tree) (f : Routine) : Type 0 where
-  pub vars : f.declares.vars ≤ 8
-  pub few_given : length f.declares.given ≤ 16
+  pub vars : f.declares.vars ≤ most_priority_variables
+  pub few_given : length f.declares.given ≤ most_constraints
   pub given : All (λ (c : Constraint). PrioIn (scope_in p f) c.0 × PrioIn (scope_in p f) c.1) f.declares.given
-  pub few_params : length f.declares.params ≤ 8
+  pub few_params : length f.declares.params ≤ most_parameters
   pub params : All (Written (scope_in p f)) f.declares.params
   pub own : PrioIn (scope_in p f) f.declares.own
   pub gives : Written (scope_in p f) f.declares.gives
@@ -107,7 +108,7 @@ pub record Limits : Type 0 where
 
 -- the limits of a program
 abbrev pub limits : Limits
-limits = record { names = 16; pairs = 256; procs = 256; mains = 1 }
+limits = record { names = most_priorities; pairs = most_pairs; procs = most_procedures; mains = 1 }
 
 -- the program has at most so many of each, and at least one main
 pub record KeepsLimits (most : Limits) (p : Tree) : Type 0 where

@@ -15,6 +15,7 @@ mod block;
 mod event;
 mod expr;
 mod inputs;
+mod limits;
 mod memory;
 mod path;
 mod prio;
@@ -28,6 +29,10 @@ pub use block::{Action, Bind, Block, Tail, TailForm};
 pub use event::{Event, copy_events};
 pub use expr::{Expr, ExprForm, Op};
 pub use inputs::Inputs;
+pub use limits::{
+    MOST_CONSTRAINTS, MOST_IN_SCOPE, MOST_NODES, MOST_PAIRS, MOST_PARAMETERS, MOST_PARTS,
+    MOST_PRIORITIES, MOST_PRIORITY_VARIABLES, MOST_PROCEDURES,
+};
 pub use memory::{boxed, push};
 pub use path::{Path, PathStop};
 pub use prio::Prio;

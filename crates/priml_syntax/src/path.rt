@@ -1,8 +1,10 @@
 ghost use Rattle.std.specs.Prelude.{◌≡◌, ◌↔◌, ◌<◌, [], ◌∷◌, ◌++◌, length, IsTrue, IfOk, Err};
 ghost use Rattle.std.specs.Ordering.{nat_cmp};
 ghost use Rattle.std.specs.Cmp.Lexicographic.{slice_cmp};
+ghost use Rattle.priml_syntax.specs.Limits.{most_parts};
 ghost use Rattle.priml_syntax.specs.Paths.{IsPath, Precedes, child_path};
 
+use crate::limits::MOST_PARTS;
 use std::alloc::{AllocError, Global};
 use std::cmp::Ordering;
 use std::marker::Model;
@@ -66,10 +68,10 @@ impl Path {
     /// 32 parts.
     pub fn child(&self, alloc: Global, k: u32) -> Result<Path, PathStop>
         ensures ok { IfOk result (λ p. p ≡ child_path self.now k) }
-        ensures deep { result ≡ Err PathStop.TooDeep → length self.now ≡ 32 }
-        ensures exact { length self.now ≡ 32 → result ≡ Err PathStop.TooDeep }
+        ensures deep { result ≡ Err PathStop.TooDeep → length self.now ≡ most_parts }
+        ensures exact { length self.now ≡ most_parts → result ≡ Err PathStop.TooDeep }
     {
-        if self.parts.len() >= 32 {
+        if self.parts.len() >= MOST_PARTS {
             return Err(PathStop::TooDeep);
         }
         Ok(self.longer(alloc, k)?)
@@ -77,7 +79,7 @@ impl Path {
 
     // The path with one part more.
     fn longer(&self, alloc: Global, k: u32) -> Result<Path, AllocError>
-        requires { length self.now < 32 }
+        requires { length self.now < most_parts }
         ensures { IfOk result (λ p. p ≡ self.now ++ k ∷ []) }
     {
         let mut parts = Vec::with_capacity(alloc, self.parts.len() + 1)?;

@@ -10,7 +10,7 @@ use Rattle.task_state.specs.declared.task.Task.{Task}
 use Rattle.task_state.specs.Tasks.{TaskKey}
 use Rattle.priority_deques.specs.declared.view.LaneView.{LaneView}
 use Rattle.task_state.specs.Sums.{total}
-use Rattle.priority_deques.specs.Rule.{AllFit, Each, HasPut, HasTaken, IsLaneDeque, Kept, key, keys, newcomer, unnamed}
+use Rattle.priority_deques.specs.Inside.Rule.{AllFit, Each, HasPut, HasTaken, IsLaneDeque, Kept, key, keys, newcomer, unnamed}
 use Rattle.task_state.proofs.Sums.{each_set, total_append, total_same, total_set}
 
 fit_left : (job : WithInputs) (lane : ℕ) (xs ys : List Task) → AllFit job lane (xs ++ ys) → AllFit job lane xs

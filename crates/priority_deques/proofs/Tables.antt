@@ -5,7 +5,7 @@ use Rattle.type_rules.specs.Jobs.{WithInputs}
 use Rattle.core_steps.specs.Moves.{read_job}
 use Rattle.task_state.specs.Tasks.{TaskFields, OfJob}
 use Rattle.priority_deques.specs.Ends.{lane_count}
-use Rattle.priority_deques.specs.Tables.{IsLaneTable}
+use Rattle.priority_deques.specs.Inside.Tables.{IsLaneTable}
 use Rattle.priority_deques.specs.Tasks.{IsLaneOf}
 use Rattle.priority_deques.proofs.Prios.{prio_in}
 

@@ -1,2 +1,4 @@
 pub mod Props
 pub mod Opening
+pub mod Rule
+pub mod Tables

@@ -1,9 +1,7 @@
 pub mod Tasks
 pub mod Codes
-pub mod Rule
 pub mod Books
 pub mod Ends
-pub mod Tables
 pub mod Parts
 pub mod Handles
 pub mod EndBooks

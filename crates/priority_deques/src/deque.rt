@@ -3,7 +3,7 @@ ghost use Rattle.std.specs.Prelude.{◌≡◌, IfOk};
 ghost use Rattle.crossbeam_deque.specs.Handles.{worker_view, worker_flavor};
 ghost use Rattle.priority_deques.specs.Ends.{fresh_book};
 ghost use Rattle.priority_deques.specs.Handles.{own_book, their_book};
-ghost use Rattle.priority_deques.specs.Rule.{newcomer, unnamed};
+ghost use Rattle.priority_deques.specs.Inside.Rule.{newcomer, unnamed};
 
 use crate::bag::{Bag, OwnBag};
 use crate::handles::{OwnDeque, TheirDeque};

@@ -23,7 +23,7 @@ pub struct LaneTable {
 impl Model for LaneTable {
     ghost use Rattle.type_rules.specs.Jobs.{WithInputs};
     ghost use Rattle.priority_deques.specs.Codes.{job_code};
-    ghost use Rattle.priority_deques.specs.Tables.{IsLaneTable};
+    ghost use Rattle.priority_deques.specs.Inside.Tables.{IsLaneTable};
 
     ghost Value = { WithInputs };
 

@@ -18,7 +18,7 @@ pub struct LaneView {
 pub struct LaneRule;
 
 impl Protocol<Task, LaneView> for LaneRule {
-    ghost use Rattle.priority_deques.specs.Rule.{Kept, unnamed};
+    ghost use Rattle.priority_deques.specs.Inside.Rule.{Kept, unnamed};
 
     ghost holds = { Kept };
 
@@ -28,7 +28,7 @@ impl Protocol<Task, LaneView> for LaneRule {
 }
 
 impl crossbeam_queue::protocol::Protocol<Task, LaneView> for LaneRule {
-    ghost use Rattle.priority_deques.specs.Rule.{Kept, unnamed};
+    ghost use Rattle.priority_deques.specs.Inside.Rule.{Kept, unnamed};
 
     ghost holds = { Kept };
 
@@ -43,7 +43,7 @@ pub trait Names {
 }
 
 impl Names for Brand {
-    ghost use Rattle.priority_deques.specs.Rule.{unnamed};
+    ghost use Rattle.priority_deques.specs.Inside.Rule.{unnamed};
 
     ghost named = { unnamed };
 }
@@ -75,27 +75,27 @@ pub struct Puts;
 pub struct Takes;
 
 impl Outcome<Task, LaneView> for Puts {
-    ghost use Rattle.priority_deques.specs.Rule.{HasPut};
+    ghost use Rattle.priority_deques.specs.Inside.Rule.{HasPut};
 
     ghost then = { HasPut };
 }
 
 impl Outcome<Task, LaneView> for Takes {
-    ghost use Rattle.priority_deques.specs.Rule.{HasTaken};
+    ghost use Rattle.priority_deques.specs.Inside.Rule.{HasTaken};
 
     ghost then = { HasTaken };
 }
 
 impl crossbeam_queue::protocol::Outcome<Task, LaneView> for Puts {
     ghost use Rattle.std.specs.Prelude.{[], ◌∷◌};
-    ghost use Rattle.priority_deques.specs.Rule.{HasPut};
+    ghost use Rattle.priority_deques.specs.Inside.Rule.{HasPut};
 
     ghost then = { λ v x w. HasPut v (x ∷ []) w };
 }
 
 impl crossbeam_queue::protocol::Outcome<Task, LaneView> for Takes {
     ghost use Rattle.std.specs.Prelude.{[], ◌∷◌};
-    ghost use Rattle.priority_deques.specs.Rule.{HasTaken};
+    ghost use Rattle.priority_deques.specs.Inside.Rule.{HasTaken};
 
     ghost then = { λ v x w. HasTaken v (x ∷ []) w };
 }

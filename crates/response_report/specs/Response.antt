@@ -41,7 +41,3 @@ pub record IsRow (g : CostGraph) (pairs : List (ℕ × ℕ)) (cores : ℕ) (step
 pub record AreRows (g : CostGraph) (pairs : List (ℕ × ℕ)) (cores : ℕ) (steps : List (List ℕ)) (rows : List Row) : Type 0 where
   pub each_thread : length rows ≡ thread_total g
   pub are : (t : ℕ) (d : Row) → t < thread_total g → IsRow g pairs cores steps t (get_or rows t d)
-
--- the most that threads times vertices may be
-abbrev pub limit : ℕ
-limit = 134217728

@@ -4,6 +4,7 @@ ghost use Rattle.std.specs.Prelude.{◌≡◌, ◌<◌, ◌≤◌, ◌^◌, ◌+
 ghost use Rattle.std.specs.List.{All};
 ghost use Rattle.std.specs.Vec.{vec_len};
 ghost use Rattle.priml_syntax.specs.Read.{read_record};
+ghost use Rattle.priml_syntax.specs.Limits.{most_parts, most_children};
 ghost use Rattle.serial_meaning.specs.declared.serial.MeaningStop.TheVariants.{OutOfMemory};
 ghost use Rattle.priml_syntax.specs.declared.record.Record.{Record as TheRecord};
 ghost use Rattle.cost_graph.specs.Records.{AreFinished, parts_in};
@@ -155,8 +156,8 @@ fn put_back(
 
 // The thread and its next child.
 fn put_both(active: &mut Vec<Active>, alloc: Global, top: Active) -> Result<(), AllocError>
-    requires deep { length top.path < 32 }
-    requires many { top.children < 4294967295 }
+    requires deep { length top.path < most_parts }
+    requires many { top.children < most_children }
     ensures { OnOk result (active.new.items ≡ active.old.items ++ left_of top Event.Spawn) }
 {
     let path = child_of(alloc, &top.path, top.children)?;
@@ -169,7 +170,7 @@ fn put_both(active: &mut Vec<Active>, alloc: Global, top: Active) -> Result<(), 
 
 // The path of a child of a thread that may spawn.
 fn child_of(alloc: Global, path: &Path, k: u32) -> Result<Path, AllocError>
-    requires { length path.now < 32 }
+    requires { length path.now < most_parts }
     ensures { IfOk result (λ p. p ≡ path.now ++ k ∷ []) }
 {
     match path.child(alloc, k) {

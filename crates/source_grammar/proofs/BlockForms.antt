@@ -13,7 +13,7 @@ use Rattle.source_grammar.specs.declared.raw.RawBind.{RawBind}
 use Rattle.source_grammar.specs.declared.raw.RawBlock.{RawBlock, RawBlock', out-RawBlock, Row_of-RawBind, end_of-RawBind, more_of-RawBind, items-the_row-RawBind, items_shown-the_row-RawBind-0, RawBlock-F, roll-RawBlock, out-roll-RawBlock}
 use Rattle.source_grammar.specs.RawTree.{RawTerm, RawCode, block, RawBody, bind, ret_tail, if_tail, case_tail, RawAct, ret, spawn, sync, call, do_block, input, output}
 use Rattle.source_grammar.specs.RawRead.{read_expr, read_action, read_block, read_binds, read_tail}
-use Rattle.source_grammar.specs.Lists.{body_of}
+use Rattle.source_grammar.specs.Inside.Lists.{body_of}
 use Rattle.source_grammar.specs.Grammar.{sign, word, name, IsListed, IsName, IsExpr, IsPriorities, IsBlock, IsBody, IsAction}
 use Rattle.source_grammar.proofs.CommaLists.{listed_map}
 
@@ -60,16 +60,16 @@ pub body_made : (old a new : List Token) (at close : ℕ) (b : RawBody) → old 
 body_made old a new at close b p x = rw p (IsBlock.is_block at close x)
 
 pub give_made : (old a new : List Token) (at : ℕ) (e : RawTerm) → old ≡ word at w.Ret ∷ a → IsExpr a new e → IsBody old new (ret_tail at e)
-give_made old a new at e p x = rw p (IsBody.is_give at x)
+give_made old a new at e p x = rw p (IsBody.is_ret_tail at x)
 
-pub branch_made : (o1 o2 o3 o4 o5 new : List Token) (at other : ℕ) (e : RawTerm) (x y u v : RawCode) → o1 ≡ word at w.If ∷ o2 → IsExpr o2 o3 e → IsBlock o3 o4 x
+pub if_tail_made : (o1 o2 o3 o4 o5 new : List Token) (at other : ℕ) (e : RawTerm) (x y u v : RawCode) → o1 ≡ word at w.If ∷ o2 → IsExpr o2 o3 e → IsBlock o3 o4 x
     → o4 ≡ word other w.Else ∷ o5 → IsBlock o5 new y → u ≡ x → v ≡ y → IsBody o1 new (if_tail at e u v)
-branch_made o1 o2 o3 o4 o5 new at other e x y u v p g h q k i j = rw (p, i, j) (IsBody.is_branch at other g (rw q at h) k)
+if_tail_made o1 o2 o3 o4 o5 new at other e x y u v p g h q k i j = rw (p, i, j) (IsBody.is_if_tail at other g (rw q at h) k)
 
-pub split_made : (o1 o2 o3 o4 o5 o6 o7 o8 new : List Token) (at b c : ℕ) (m n : Name) (e : RawTerm) (x y u v : RawCode) → o1 ≡ word at w.Case ∷ o2 → IsExpr o2 o3 e
+pub case_tail_made : (o1 o2 o3 o4 o5 o6 o7 o8 new : List Token) (at b c : ℕ) (m n : Name) (e : RawTerm) (x y u v : RawCode) → o1 ≡ word at w.Case ∷ o2 → IsExpr o2 o3 e
     → o3 ≡ word b w.Inl ∷ o4 → o4 ≡ name m ∷ o5 → IsBlock o5 o6 x → o6 ≡ word c w.Inr ∷ o7 → o7 ≡ name n ∷ o8 → IsBlock o8 new y → u ≡ x → v ≡ y
     → IsBody o1 new (case_tail at e m u n v)
-split_made o1 o2 o3 o4 o5 o6 o7 o8 new at b c m n e x y u v p g q r h f i k d l = rw (p, d, l) (IsBody.is_split at b c m n (rw (q, r) at g) (rw (f, i) at h) k)
+case_tail_made o1 o2 o3 o4 o5 o6 o7 o8 new at b c m n e x y u v p g q r h f i k d l = rw (p, d, l) (IsBody.is_case_tail at b c m n (rw (q, r) at g) (rw (f, i) at h) k)
 
 -- Actions.
 pub ret_made : (old a new : List Token) (at : ℕ) (e : RawTerm) → old ≡ word at w.Ret ∷ a → IsExpr a new e → IsAction old new at (ret e)
@@ -89,7 +89,7 @@ pub spawn_made : (old a b c d new : List Token) (at from close : ℕ) (p : Name)
 spawn_made old a b c d new at from close p body e f g h x = rw (e, f, g, h) (IsAction.is_spawn at from close p x)
 
 pub run_made : (old a new : List Token) (at : ℕ) (b body : RawCode) → old ≡ word at w.Do ∷ a → IsBlock a new b → body ≡ b → IsAction old new at (do_block body)
-run_made old a new at b body e x f = rw (e, f) (IsAction.is_run at x)
+run_made old a new at b body e x f = rw (e, f) (IsAction.is_do_block at x)
 
 pub call_found : (o1 o2 o3 o4 o5 new : List Token) (at from close : ℕ) (f : Name) (ps : List Name) (es : List RawTerm) → o1 ≡ word at w.Call ∷ o2 → o2 ≡ name f ∷ o3
     → IsPriorities o3 (sign from s.OpenParen ∷ o4) ps → IsListed IsExpr o4 o5 es → o5 ≡ sign close s.CloseParen ∷ new → IsAction o1 new at (call f ps es)

@@ -5,8 +5,8 @@ use Rattle.source_tokens.specs.declared.token.Word.TheVariants as w
 use Rattle.source_tokens.specs.declared.token.Sign.TheVariants as s
 use Rattle.source_grammar.specs.declared.choice.ActionForm.TheVariants as action
 use Rattle.source_grammar.specs.declared.choice.TailForm.TheVariants as tail
-use Rattle.source_grammar.specs.Next.{is_at, form_at, is_name, is_sign, action_form, tail_form}
-use Rattle.source_grammar.specs.Machine.{Symbol, parens, brackets, halt, by_form, and_then, rule_bind, rule_tail, rule_call_priorities, AName, AWord, ASign, AtEnd, Listed, Expr, Block, Binds, Bind, Tail, TailOf, Action, ActionOf, CallOpen, CallPriorities}
+use Rattle.source_grammar.specs.Inside.Next.{is_at, form_at, is_name, is_sign, action_form, tail_form}
+use Rattle.source_grammar.specs.Inside.Machine.{Symbol, parens, brackets, halt, by_form, and_then, rule_bind, rule_tail, rule_call_priorities, AName, AWord, ASign, AtEnd, Listed, Expr, Block, Binds, Bind, Tail, TailOf, Action, ActionOf, CallOpen, CallPriorities}
 use Rattle.source_grammar.proofs.Steps.{begins, begins_here, halt-end, same, tested, chosen}
 
 -- Straight lines.
@@ -16,17 +16,17 @@ halt-block xs ts = begins _ _ (Binds ∷ []) xs ts (λ kind. refl)
 pub halt-bind : (xs : List Symbol) (ts : List Token) → halt (Bind ∷ xs) ts ≡ halt (AName ∷ ASign s.Arrow ∷ Action ∷ ASign s.Semicolon ∷ xs) ts
 halt-bind xs ts = begins _ _ (ASign s.Arrow ∷ Action ∷ ASign s.Semicolon ∷ []) xs ts (λ kind. refl)
 
-pub halt-give : (xs : List Symbol) (ts : List Token) → halt (TailOf tail.Give ∷ xs) ts ≡ halt (AWord w.Ret ∷ Expr ∷ xs) ts
-halt-give xs ts = begins _ _ (Expr ∷ []) xs ts (λ kind. refl)
+pub halt-ret_tail : (xs : List Symbol) (ts : List Token) → halt (TailOf tail.Ret ∷ xs) ts ≡ halt (AWord w.Ret ∷ Expr ∷ xs) ts
+halt-ret_tail xs ts = begins _ _ (Expr ∷ []) xs ts (λ kind. refl)
 
-pub halt-branch : (xs : List Symbol) (ts : List Token) → halt (TailOf tail.Branch ∷ xs) ts ≡ halt (AWord w.If ∷ Expr ∷ Block ∷ AWord w.Else ∷ Block ∷ xs) ts
-halt-branch xs ts = begins _ _ (Expr ∷ Block ∷ AWord w.Else ∷ Block ∷ []) xs ts (λ kind. refl)
+pub halt-if_tail : (xs : List Symbol) (ts : List Token) → halt (TailOf tail.If ∷ xs) ts ≡ halt (AWord w.If ∷ Expr ∷ Block ∷ AWord w.Else ∷ Block ∷ xs) ts
+halt-if_tail xs ts = begins _ _ (Expr ∷ Block ∷ AWord w.Else ∷ Block ∷ []) xs ts (λ kind. refl)
 
-pub halt-split : (xs : List Symbol) (ts : List Token) → halt (TailOf tail.Split ∷ xs) ts ≡ halt (AWord w.Case ∷ Expr ∷ AWord w.Inl ∷ AName ∷ Block ∷ AWord w.Inr ∷ AName ∷ Block ∷ xs) ts
-halt-split xs ts = begins _ _ (Expr ∷ AWord w.Inl ∷ AName ∷ Block ∷ AWord w.Inr ∷ AName ∷ Block ∷ []) xs ts (λ kind. refl)
+pub halt-case_tail : (xs : List Symbol) (ts : List Token) → halt (TailOf tail.Case ∷ xs) ts ≡ halt (AWord w.Case ∷ Expr ∷ AWord w.Inl ∷ AName ∷ Block ∷ AWord w.Inr ∷ AName ∷ Block ∷ xs) ts
+halt-case_tail xs ts = begins _ _ (Expr ∷ AWord w.Inl ∷ AName ∷ Block ∷ AWord w.Inr ∷ AName ∷ Block ∷ []) xs ts (λ kind. refl)
 
-pub halt-returned : (xs : List Symbol) (ts : List Token) → halt (ActionOf action.Returned ∷ xs) ts ≡ halt (AWord w.Ret ∷ Expr ∷ xs) ts
-halt-returned xs ts = begins _ _ (Expr ∷ []) xs ts (λ kind. refl)
+pub halt-ret : (xs : List Symbol) (ts : List Token) → halt (ActionOf action.Ret ∷ xs) ts ≡ halt (AWord w.Ret ∷ Expr ∷ xs) ts
+halt-ret xs ts = begins _ _ (Expr ∷ []) xs ts (λ kind. refl)
 
 pub halt-spawn : (xs : List Symbol) (ts : List Token) → halt (ActionOf action.Spawn ∷ xs) ts ≡ halt (AWord w.Spawn ∷ ASign s.OpenBracket ∷ AName ∷ ASign s.CloseBracket ∷ Block ∷ xs) ts
 halt-spawn xs ts = begins _ _ (ASign s.OpenBracket ∷ AName ∷ ASign s.CloseBracket ∷ Block ∷ []) xs ts (λ kind. refl)
@@ -37,8 +37,8 @@ halt-sync xs ts = begins _ _ (AName ∷ []) xs ts (λ kind. refl)
 pub halt-call : (xs : List Symbol) (ts : List Token) → halt (ActionOf action.Call ∷ xs) ts ≡ halt (AWord w.Call ∷ AName ∷ CallOpen ∷ Listed Expr parens ∷ xs) ts
 halt-call xs ts = begins _ _ (AName ∷ CallOpen ∷ Listed Expr parens ∷ []) xs ts (λ kind. refl)
 
-pub halt-run : (xs : List Symbol) (ts : List Token) → halt (ActionOf action.Run ∷ xs) ts ≡ halt (AWord w.Do ∷ Block ∷ xs) ts
-halt-run xs ts = begins _ _ (Block ∷ []) xs ts (λ kind. refl)
+pub halt-do_block : (xs : List Symbol) (ts : List Token) → halt (ActionOf action.Do ∷ xs) ts ≡ halt (AWord w.Do ∷ Block ∷ xs) ts
+halt-do_block xs ts = begins _ _ (Block ∷ []) xs ts (λ kind. refl)
 
 pub halt-output : (xs : List Symbol) (ts : List Token) → halt (ActionOf action.Output ∷ xs) ts ≡ halt (AWord w.Output ∷ Expr ∷ xs) ts
 halt-output xs ts = begins _ _ (Expr ∷ []) xs ts (λ kind. refl)
@@ -82,6 +82,6 @@ call-open xs ts h = tested CallOpen (ASign s.OpenParen) (is_sign s.OpenParen) tr
 pub call-priorities : (xs : List Symbol) (ts : List Token) → is_at (is_sign s.OpenParen) ts ≡ false → halt (CallOpen ∷ xs) ts ≡ halt (CallPriorities ∷ xs) ts
 call-priorities xs ts h = tested CallOpen CallPriorities (is_sign s.OpenParen) false xs ts (λ kind e. ap (λ b. cond b (Some []) (rule_call_priorities kind)) e) h
 
-pub ruleset steps = (halt-block, halt-bind, halt-give, halt-branch, halt-split, halt-returned, halt-spawn, halt-sync, halt-call, halt-run, halt-output, halt-call_priorities, halt-input, end-parens, end-brackets)
+pub ruleset steps = (halt-block, halt-bind, halt-ret_tail, halt-if_tail, halt-case_tail, halt-ret, halt-spawn, halt-sync, halt-call, halt-do_block, halt-output, halt-call_priorities, halt-input, end-parens, end-brackets)
 
 pub ruleset choices = (action-form, tail-form, call-open, call-priorities)

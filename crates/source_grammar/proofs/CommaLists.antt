@@ -5,10 +5,10 @@ use Rattle.source_tokens.specs.declared.token.Kind.{Kind}
 use Rattle.source_tokens.specs.declared.token.Kind.TheVariants as k
 use Rattle.source_tokens.specs.declared.token.Sign.TheVariants as s
 use Rattle.source_grammar.specs.Grammar.{sign, IsSeparated, IsListed}
-use Rattle.source_grammar.specs.Joined.{IsBehindComma}
-use Rattle.source_grammar.specs.Next.{is_at, is_end, is_sign}
-use Rattle.source_grammar.specs.Machine.{Symbol, End, parens, brackets, variables, rule, rule_end, halt, and_then, or_else, ASign, AtEnd, BehindComma, More, Separated, Listed}
-use Rattle.source_grammar.specs.Ends.{BeginsOtherwise}
+use Rattle.source_grammar.specs.Inside.Joined.{IsBehindComma}
+use Rattle.source_grammar.specs.Inside.Next.{is_at, is_end, is_sign}
+use Rattle.source_grammar.specs.Inside.Machine.{Symbol, End, parens, brackets, variables, rule, rule_end, halt, and_then, or_else, ASign, AtEnd, BehindComma, More, Separated, Listed}
+use Rattle.source_grammar.specs.Inside.Ends.{BeginsOtherwise}
 use Rattle.source_grammar.proofs.Steps.{begins, begins_here, halt-end, tested}
 
 -- Forms.

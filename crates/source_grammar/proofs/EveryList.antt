@@ -2,7 +2,7 @@
 use Rattle.std.proofs.Common.{◌≡◌, List, [], ◌∷◌, Option, Some, None, length, refl}
 use Rattle.source_tokens.specs.declared.token.Token.{Token}
 use Rattle.source_grammar.specs.Laws.{IsDecided, stands, leaves}
-use Rattle.source_grammar.specs.Machine.{halt, Program}
+use Rattle.source_grammar.specs.Inside.Machine.{halt, Program}
 use Rattle.source_grammar.proofs.SoundBlocks.{program_found}
 use Rattle.source_grammar.proofs.Unexpected.{placed}
 use Rattle.source_grammar.proofs.Viable.{halt_rest}

@@ -16,10 +16,10 @@ use Rattle.source_grammar.specs.declared.choice.Side.{Side}
 use Rattle.source_grammar.specs.declared.choice.Side.TheVariants as side
 use Rattle.source_grammar.specs.declared.choice.Joint.{Joint}
 use Rattle.source_grammar.specs.declared.choice.Joint.TheVariants as joint
-use Rattle.source_grammar.specs.Next.{mid_form, joint_form, prefix_word, side_word}
-use Rattle.source_grammar.specs.Joined.{mid_type, prefix_term, side_term, joint_term, IsToken}
+use Rattle.source_grammar.specs.Inside.Next.{mid_form, joint_form, prefix_word, side_word}
+use Rattle.source_grammar.specs.Inside.Joined.{mid_type, prefix_term, side_term, joint_term, IsToken}
 use Rattle.source_grammar.specs.RawTree.{RawType, unit, bool, int, thread, WrittenType, RawTerm, var, number, bool_term, unit_term}
-use Rattle.source_grammar.specs.Grammar.{token, sign, word, name, IsType, IsWritten, IsOp, IsExpr, IsName, IsGiven, IsParameter}
+use Rattle.source_grammar.specs.Grammar.{token, sign, word, name, IsType, IsWritten, IsOp, IsExpr, IsName, IsConstraint, IsParameter}
 
 of_kind : (t : Token) (kind : Kind) → t.kind ≡ kind → t ≡ token t.at kind
 of_kind t kind h = ap (λ x. token t.at x) h
@@ -80,7 +80,7 @@ pub opened_made : (old a new : List Token) (at : ℕ) (x : RawTerm) → old ≡ 
 opened_made old a new at x e h = rw e h
 
 pub nothing_made : (old new : List Token) (at close : ℕ) → old ≡ sign close s.CloseParen ∷ new → IsExpr (sign at s.OpenParen ∷ old) new (unit_term at)
-nothing_made old new at close e = rw e (IsExpr.is_nothing at close)
+nothing_made old new at close e = rw e (IsExpr.is_unit_term at close)
 
 pub closed_made : (ts old new : List Token) (at close : ℕ) (x : RawTerm) → old ≡ sign close s.CloseParen ∷ new → IsExpr ts old x → IsExpr (sign at s.OpenParen ∷ ts) new x
 closed_made ts old new at close x e h = IsExpr.is_inside at close (rw e at h)
@@ -116,7 +116,7 @@ op_is _ op h = absurd (cc)
 
 join_term : (j : Joint) (at c : ℕ) (t : Token) {ts us rest : List Token} {x y : RawTerm} → joint_form t.kind ≡ Some j → IsExpr ts (t ∷ us) x → IsExpr us (sign c s.CloseParen ∷ rest) y
     → IsExpr (sign at s.OpenParen ∷ ts) rest (joint_term j at x y)
-join_term joint.Comma at c t e g h = IsExpr.is_both at t.at c (rw (of_kind t (k.Sign s.Comma) (comma_is t.kind e)) at g) h
+join_term joint.Comma at c t e g h = IsExpr.is_pair_term at t.at c (rw (of_kind t (k.Sign s.Comma) (comma_is t.kind e)) at g) h
 join_term (joint.Operator op) at c t e g h = IsExpr.is_binary at t.at c t.kind op g (op_is t.kind op e) h
 
 pub joined_made : (ts o1 o2 o3 new : List Token) (at c : ℕ) (j : Joint) (x y z : RawTerm) → IsToken joint_form o1 o2 j → IsExpr o2 o3 y → o3 ≡ sign c s.CloseParen ∷ new
@@ -148,8 +148,8 @@ injected_made o1 o2 o3 o4 o5 o6 o7 new at a b c e d t x z e1 e2 g e3 e4 h e5 e6 
 pub name_made : (old new : List Token) (n : Name) → old ≡ name n ∷ new → IsName old new n
 name_made old new n e = rw e (IsName.is_name n)
 
-pub given_made : (old a b new : List Token) (at : ℕ) (p q : Name) → old ≡ name p ∷ a → a ≡ sign at s.AtMost ∷ b → b ≡ name q ∷ new → IsGiven old new (p, q)
-given_made old a b new at p q e f g = rw (e, f, g) (IsGiven.is_given p q at)
+pub given_made : (old a b new : List Token) (at : ℕ) (p q : Name) → old ≡ name p ∷ a → a ≡ sign at s.AtMost ∷ b → b ≡ name q ∷ new → IsConstraint old new (p, q)
+given_made old a b new at p q e f g = rw (e, f, g) (IsConstraint.is_constraint p q at)
 
 pub parameter_made : (old a b new : List Token) (colon : ℕ) (n : Name) (t : WrittenType) → old ≡ name n ∷ a → a ≡ sign colon s.Colon ∷ b → IsWritten b new t
     → IsParameter old new (record { name = n; ty = t })

@@ -6,10 +6,10 @@ use Rattle.source_tokens.specs.declared.token.Sign.TheVariants as s
 use Rattle.source_grammar.specs.declared.raw.Name.{Name}
 use Rattle.source_grammar.specs.declared.raw.RawParam.{RawParam}
 use Rattle.source_grammar.specs.declared.raw.RawDecl.{RawDecl}
-use Rattle.source_grammar.specs.Joined.{EndsHead}
+use Rattle.source_grammar.specs.Inside.Joined.{EndsHead}
 use Rattle.source_grammar.specs.RawTree.{WrittenType, RawCode, Parameter, RawRoutine, RawProcedure, Declaration, priority, order, procedure, RawTree}
 use Rattle.source_grammar.specs.RawRead.{read_param, read_decl}
-use Rattle.source_grammar.specs.Grammar.{sign, word, name, IsListed, IsSeparated, IsName, IsGiven, IsParameter, IsWritten, IsBlock, IsHead, IsRoutine, IsProcedure, IsDecls, IsMain, IsProgram}
+use Rattle.source_grammar.specs.Grammar.{sign, word, name, IsListed, IsSeparated, IsName, IsConstraint, IsParameter, IsWritten, IsBlock, IsHead, IsRoutine, IsProcedure, IsDecls, IsMain, IsProgram}
 use Rattle.source_grammar.proofs.CommaLists.{listed_map}
 
 -- The head of a procedure.
@@ -24,7 +24,7 @@ variables_made old a b new at ns gs e h f = (f.0, rw e (f.1 at a ns h))
 pub no_given_made : (old a new : List Token) (close i : ℕ) (gs : List (Name × Name)) → old ≡ sign close s.CloseBracket ∷ a → a ≡ sign i s.OpenParen ∷ new → gs ≡ [] → EndsHead old new gs
 no_given_made old a new close i gs p q r = (i, λ at ts ns h. rw (r, ← q) (IsHead.free at close (rw p at h)))
 
-pub given_made : (old a b c new : List Token) (mid close i : ℕ) (gs : List (Name × Name)) → old ≡ sign mid s.Semicolon ∷ a → IsSeparated (λ ts rest g. IsGiven ts rest g) a b gs
+pub given_made : (old a b c new : List Token) (mid close i : ℕ) (gs : List (Name × Name)) → old ≡ sign mid s.Semicolon ∷ a → IsSeparated (λ ts rest g. IsConstraint ts rest g) a b gs
     → b ≡ sign close s.CloseBracket ∷ c → c ≡ sign i s.OpenParen ∷ new → EndsHead old new gs
 given_made old a b c new mid close i gs p g q r = (i, λ at ts ns h. IsHead.bound at mid close (rw p at h) (rw (q, r) at g))
 

@@ -6,8 +6,8 @@ use Rattle.source_tokens.specs.declared.token.Word.TheVariants as w
 use Rattle.source_tokens.specs.declared.token.Sign.TheVariants as s
 use Rattle.source_grammar.specs.declared.choice.DeclarationForm.{DeclarationForm}
 use Rattle.source_grammar.specs.declared.choice.DeclarationForm.TheVariants as decl
-use Rattle.source_grammar.specs.Next.{is_at, form_at, is_sign, declaration_form}
-use Rattle.source_grammar.specs.Machine.{Symbol, parens, brackets, variables, rule, halt, and_then, by_form, rule_declaration_form, rule_main, rule_head_close, rule_head_given, rule_head_variables, declaration_symbol, AName, AWord, ASign, AtEnd, Listed, Separated, Ty, Block, Program, Priority, Order, Procedure, Main, Routine, HeadOpen, HeadVariables, HeadEnd, HeadClose, HeadGiven, Given, Parameter}
+use Rattle.source_grammar.specs.Inside.Next.{is_at, form_at, is_sign, declaration_form}
+use Rattle.source_grammar.specs.Inside.Machine.{Symbol, parens, brackets, variables, rule, halt, and_then, by_form, rule_declaration_form, rule_main, rule_head_close, rule_head_given, rule_head_variables, declaration_symbol, AName, AWord, ASign, AtEnd, Listed, Separated, Ty, Block, Program, Priority, Order, Procedure, Main, Routine, HeadOpen, HeadVariables, HeadEnd, HeadClose, HeadGiven, Given, Parameter}
 use Rattle.source_grammar.proofs.Steps.{begins, begins_here, halt-end, same, same_here, tested}
 use Rattle.source_grammar.proofs.BlockSteps.{end-parens, end-brackets}
 

@@ -10,11 +10,11 @@ use Rattle.source_tokens.specs.declared.token.Sign.TheVariants as s
 use Rattle.priml_syntax.specs.declared.expr.Op.{Op}
 use Rattle.source_grammar.specs.declared.raw.Name.{Name}
 use Rattle.source_grammar.specs.RawTree.{RawType, RawTerm, RawCode, RawBody, RawAct, WrittenType, RawRoutine, RawProcedure, Declaration, RawTree}
-use Rattle.source_grammar.specs.Grammar.{token, sign, IsSeparated, IsListed, IsName, IsType, IsWritten, IsOp, IsExpr, IsPriorities, IsBlock, IsBody, IsAction, IsGiven, IsParameter, IsHead, IsRoutine, IsProcedure, IsDecls, IsMain, IsProgram}
-use Rattle.source_grammar.specs.Next.{is_at, is_end, is_sign}
-use Rattle.source_grammar.specs.Ends.{BeginsOtherwise, name_no_end, expr_no_end, parameter_no_end}
-use Rattle.source_grammar.specs.Machine.{Symbol, End, parens, brackets, variables, halt, AName, AWord, ASign, AtEnd, More, Separated, Listed, Ty, TyMid, Expr, Inside, Behind, Block, Binds, Action, CallOpen, Program, Routine, HeadOpen, Given}
-use Rattle.source_grammar.specs.Machine as m
+use Rattle.source_grammar.specs.Grammar.{token, sign, IsSeparated, IsListed, IsName, IsType, IsWritten, IsOp, IsExpr, IsPriorities, IsBlock, IsBody, IsAction, IsConstraint, IsParameter, IsHead, IsRoutine, IsProcedure, IsDecls, IsMain, IsProgram}
+use Rattle.source_grammar.specs.Inside.Next.{is_at, is_end, is_sign}
+use Rattle.source_grammar.specs.Inside.Ends.{BeginsOtherwise, name_no_end, expr_no_end, parameter_no_end}
+use Rattle.source_grammar.specs.Inside.Machine.{Symbol, End, parens, brackets, variables, halt, AName, AWord, ASign, AtEnd, More, Separated, Listed, Ty, TyMid, Expr, Inside, Behind, Block, Binds, Action, CallOpen, Program, Routine, HeadOpen, Given}
+use Rattle.source_grammar.specs.Inside.Machine as m
 use Rattle.source_grammar.proofs.Steps.{halt-bracketed, inside-more}
 use Rattle.source_grammar.proofs.Taken.{sign_same}
 use Rattle.source_grammar.proofs.CommaLists.{halt-separated, listed-end, listed-more, more-end}
@@ -85,9 +85,9 @@ expr_starts _ _ _ (IsExpr.is_var n) = refl
 expr_starts _ _ _ (IsExpr.is_number at n) = refl
 expr_starts _ _ _ (IsExpr.is_true at) = refl
 expr_starts _ _ _ (IsExpr.is_false at) = refl
-expr_starts _ _ _ (IsExpr.is_nothing at close) = refl
+expr_starts _ _ _ (IsExpr.is_unit_term at close) = refl
 expr_starts _ _ _ (IsExpr.is_inside at close x) = refl
-expr_starts _ _ _ (IsExpr.is_both at comma close x y) = refl
+expr_starts _ _ _ (IsExpr.is_pair_term at comma close x y) = refl
 expr_starts _ _ _ (IsExpr.is_binary at mid close kind op x o y) = refl
 expr_starts _ _ _ (IsExpr.is_first at a close x) = refl
 expr_starts _ _ _ (IsExpr.is_second at a close x) = refl
@@ -117,9 +117,9 @@ expr_moves (IsExpr.is_var n) xs = refl
 expr_moves (IsExpr.is_number at n) xs = refl
 expr_moves (IsExpr.is_true at) xs = refl
 expr_moves (IsExpr.is_false at) xs = refl
-expr_moves (IsExpr.is_nothing at close) xs = refl
+expr_moves (IsExpr.is_unit_term at close) xs = refl
 expr_moves (IsExpr.is_inside at close x) xs = inside_is x xs ∙ expr_moves x (Behind ∷ xs)
-expr_moves (IsExpr.is_both at comma close x y) xs = inside_is x xs ∙ expr_moves x (Behind ∷ xs) ∙ expr_moves y (ASign s.CloseParen ∷ xs)
+expr_moves (IsExpr.is_pair_term at comma close x y) xs = inside_is x xs ∙ expr_moves x (Behind ∷ xs) ∙ expr_moves y (ASign s.CloseParen ∷ xs)
 expr_moves (IsExpr.is_binary at mid close kind op x o y) xs = inside_is x xs ∙ expr_moves x (Behind ∷ xs) ∙ op_is o mid xs _ ∙ expr_moves y (ASign s.CloseParen ∷ xs)
 expr_moves (IsExpr.is_first at a close x) xs = expr_moves x (ASign s.CloseParen ∷ xs)
 expr_moves (IsExpr.is_second at a close x) xs = expr_moves x (ASign s.CloseParen ∷ xs)
@@ -140,10 +140,10 @@ mutual
   block_moves (IsBlock.is_block at close b) xs = body_moves b xs
 
   body_moves : {ts rest : List Token} {close : ℕ} {b : RawBody} → IsBody ts (sign close s.CloseBrace ∷ rest) b → (xs : List Symbol) → halt (Binds ∷ xs) ts ≡ halt xs rest
-  body_moves (IsBody.is_give at e) xs = expr_moves e (ASign s.CloseBrace ∷ xs)
-  body_moves (IsBody.is_branch at other e x y) xs =
+  body_moves (IsBody.is_ret_tail at e) xs = expr_moves e (ASign s.CloseBrace ∷ xs)
+  body_moves (IsBody.is_if_tail at other e x y) xs =
       expr_moves e (Block ∷ AWord w.Else ∷ Block ∷ ASign s.CloseBrace ∷ xs) ∙ block_moves x (AWord w.Else ∷ Block ∷ ASign s.CloseBrace ∷ xs) ∙ block_moves y (ASign s.CloseBrace ∷ xs)
-  body_moves (IsBody.is_split at b c m n e x y) xs =
+  body_moves (IsBody.is_case_tail at b c m n e x y) xs =
       expr_moves e (AWord w.Inl ∷ AName ∷ Block ∷ AWord w.Inr ∷ AName ∷ Block ∷ ASign s.CloseBrace ∷ xs) ∙ block_moves x (AWord w.Inr ∷ AName ∷ Block ∷ ASign s.CloseBrace ∷ xs)
       ∙ block_moves y (ASign s.CloseBrace ∷ xs)
   body_moves (IsBody.is_bind n arrow at end a b) xs = action_moves a (ASign s.Semicolon ∷ Binds ∷ xs) ∙ body_moves b xs
@@ -153,14 +153,14 @@ mutual
   action_moves (IsAction.is_spawn at from close p b) xs = block_moves b xs
   action_moves (IsAction.is_sync at h) xs = refl
   action_moves (IsAction.is_call at from close f ps es) xs = priorities_move ps (Listed Expr parens ∷ xs) ∙ listed_moves Expr expr_no_end (λ ts rest x h. expr_moves h) expr_starts es parens xs refl
-  action_moves (IsAction.is_run at b) xs = block_moves b xs
+  action_moves (IsAction.is_do_block at b) xs = block_moves b xs
   action_moves (IsAction.is_input at) xs = refl
   action_moves (IsAction.is_output at e) xs = expr_moves e xs
 
 -- Procedures and programs.
-given_moves : ItemMoves IsGiven Given
+given_moves : ItemMoves IsConstraint Given
 unfolding halt
-given_moves _ _ _ (IsGiven.is_given p q at) xs = refl
+given_moves _ _ _ (IsConstraint.is_constraint p q at) xs = refl
 
 parameter_moves : ItemMoves IsParameter m.Parameter
 unfolding halt

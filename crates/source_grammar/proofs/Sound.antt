@@ -11,12 +11,12 @@ use Rattle.source_grammar.specs.declared.choice.Prefix.{Prefix}
 use Rattle.source_grammar.specs.declared.choice.Side.{Side}
 use Rattle.source_grammar.specs.declared.choice.ExprForm.{ExprForm}
 use Rattle.source_grammar.specs.declared.choice.ExprForm.TheVariants as expr
-use Rattle.source_grammar.specs.Next.{is_at, form_at, is_sign, is_end, ty_form, mid_form, expr_form, joint_form, prefix_word, side_word}
-use Rattle.source_grammar.specs.Joined.{mid_type, prefix_term, side_term, joint_term}
+use Rattle.source_grammar.specs.Inside.Next.{is_at, form_at, is_sign, is_end, ty_form, mid_form, expr_form, joint_form, prefix_word, side_word}
+use Rattle.source_grammar.specs.Inside.Joined.{mid_type, prefix_term, side_term, joint_term}
 use Rattle.source_grammar.specs.RawTree.{unit, bool, int, thread, RawTerm, var, number, bool_term, unit_term}
 use Rattle.source_grammar.specs.Grammar.{token, sign, IsSeparated, IsListed, IsType, IsWritten, IsExpr}
-use Rattle.source_grammar.specs.Ends.{BeginsOtherwise}
-use Rattle.source_grammar.specs.Machine.{Symbol, End, by_form, halt, AName, ASign, AtEnd, More, Separated, Listed, Ty, TyOf, TyMid, Expr, ExprOf, Inside, Behind, AJoint}
+use Rattle.source_grammar.specs.Inside.Ends.{BeginsOtherwise}
+use Rattle.source_grammar.specs.Inside.Machine.{Symbol, End, by_form, halt, AName, ASign, AtEnd, More, Separated, Listed, Ty, TyOf, TyMid, Expr, ExprOf, Inside, Behind, AJoint}
 use Rattle.source_grammar.proofs.Forms.{thread_made, paired_made, opened_made, nothing_made, closed_made, joined_made, applied_made, injected_made}
 use Rattle.source_grammar.proofs.Steps.{halt-thread_ty, halt-paired_ty, halt-opened, halt-bracketed, halt-joined, halt-applied, halt-injected, ty-form, expr-form, inside-close, inside-more, behind-close, behind-more}
 use Rattle.source_grammar.proofs.CommaLists.{halt-separated, halt-behind_comma, listed-end, listed-more, more-comma, more-end}

@@ -11,18 +11,18 @@ use Rattle.source_grammar.specs.declared.choice.TailForm.{TailForm}
 use Rattle.source_grammar.specs.declared.choice.TailForm.TheVariants as tail
 use Rattle.source_grammar.specs.declared.choice.DeclarationForm.{DeclarationForm}
 use Rattle.source_grammar.specs.declared.choice.DeclarationForm.TheVariants as decl
-use Rattle.source_grammar.specs.Next.{is_at, form_at, is_name, is_sign, action_form, tail_form, declaration_form}
-use Rattle.source_grammar.specs.Ends.{name_no_end, expr_no_end, parameter_no_end}
-use Rattle.source_grammar.specs.Joined.{EndsHead}
+use Rattle.source_grammar.specs.Inside.Next.{is_at, form_at, is_name, is_sign, action_form, tail_form, declaration_form}
+use Rattle.source_grammar.specs.Inside.Ends.{name_no_end, expr_no_end, parameter_no_end}
+use Rattle.source_grammar.specs.Inside.Joined.{EndsHead}
 use Rattle.source_grammar.specs.RawTree.{block, RawBody, bind, ret_tail, if_tail, case_tail, RawAct, ret, spawn, sync, call, do_block, input, output, Declaration, priority, order, procedure, RawTree}
-use Rattle.source_grammar.specs.Grammar.{sign, IsName, IsExpr, IsPriorities, IsBlock, IsBody, IsAction, IsGiven, IsParameter, IsHead, IsRoutine, IsProcedure, IsDecls, IsMain, IsProgram}
-use Rattle.source_grammar.specs.Machine.{Symbol, parens, brackets, variables, halt, declaration_symbol, AName, AWord, ASign, AtEnd, Separated, Listed, Ty, Expr, Block, Binds, Bind, Tail, TailOf, Action, ActionOf, CallOpen, CallPriorities, Program, Priority, Order, Procedure, Main, Routine, HeadOpen, HeadEnd, Given}
-use Rattle.source_grammar.specs.Machine as m
+use Rattle.source_grammar.specs.Grammar.{sign, IsName, IsExpr, IsPriorities, IsBlock, IsBody, IsAction, IsConstraint, IsParameter, IsHead, IsRoutine, IsProcedure, IsDecls, IsMain, IsProgram}
+use Rattle.source_grammar.specs.Inside.Machine.{Symbol, parens, brackets, variables, halt, declaration_symbol, AName, AWord, ASign, AtEnd, Separated, Listed, Ty, Expr, Block, Binds, Bind, Tail, TailOf, Action, ActionOf, CallOpen, CallPriorities, Program, Priority, Order, Procedure, Main, Routine, HeadOpen, HeadEnd, Given}
+use Rattle.source_grammar.specs.Inside.Machine as m
 use Rattle.source_grammar.proofs.Forms.{name_made, given_made, parameter_made}
-use Rattle.source_grammar.proofs.BlockForms.{body_made, give_made, branch_made, split_made, bind_made, ret_made, sync_made, input_made, output_made, spawn_made, run_made, call_found, absent_made, present_made}
+use Rattle.source_grammar.proofs.BlockForms.{body_made, give_made, if_tail_made, case_tail_made, bind_made, ret_made, sync_made, input_made, output_made, spawn_made, run_made, call_found, absent_made, present_made}
 use Rattle.source_grammar.proofs.HeadForms as head
 use Rattle.source_grammar.proofs.Steps.{halt-given, halt-parameter}
-use Rattle.source_grammar.proofs.BlockSteps.{halt-block, halt-bind, halt-give, halt-branch, halt-split, halt-returned, halt-spawn, halt-sync, halt-call, halt-run, halt-output, halt-call_priorities, halt-input, end-parens, end-brackets, action-form, tail-form, binds-name, binds-tail, call-open, call-priorities}
+use Rattle.source_grammar.proofs.BlockSteps.{halt-block, halt-bind, halt-ret_tail, halt-if_tail, halt-case_tail, halt-ret, halt-spawn, halt-sync, halt-call, halt-do_block, halt-output, halt-call_priorities, halt-input, end-parens, end-brackets, action-form, tail-form, binds-name, binds-tail, call-open, call-priorities}
 use Rattle.source_grammar.proofs.HeadSteps.{halt-priority, halt-order, halt-procedure, halt-main, halt-routine, halt-head_variables, halt-head_close, halt-head_given, end-variables, head-open, head-variables, head-close, head-given, program-declaration, program-main}
 use Rattle.source_grammar.proofs.Taken.{BeginsWith, word_taken, sign_taken, name_taken, nothing_left}
 use Rattle.source_grammar.proofs.Sound.{Found, ItemFound, by_choice, separated_found, listed_found, ty_found, expr_found}
@@ -38,7 +38,7 @@ brackets_taken xs ts h = sign_taken s.CloseBracket xs ts (sym (end-brackets xs t
 name_found : ItemFound IsName AName
 name_found xs ts h = let n = name_taken xs ts h in record { tree = n.it; rest = n.rest; is = name_made ts n.rest n.it n.is; shorter = n.shorter; takes = n.takes }
 
-given_found : ItemFound IsGiven Given
+given_found : ItemFound IsConstraint Given
 given_found xs ts h =
     let p = name_taken (ASign s.AtMost ∷ AName ∷ xs) ts (sym (halt-given xs ts) ∙ h) in
     let a = sign_taken s.AtMost (AName ∷ xs) p.rest p.takes in
@@ -62,15 +62,15 @@ parameter_found xs ts h =
 abbrev IsAct : List Token → List Token → ℕ × RawAct → Type 0
 IsAct ts rest a = IsAction ts rest a.0 a.1
 
-give_found : (xs : List Symbol) (ts : List Token) → halt (TailOf tail.Give ∷ xs) ts ≡ None → Found (IsBody ts) xs ts
-give_found xs ts h =
-    let p = word_taken w.Ret (Expr ∷ xs) ts (sym (halt-give xs ts) ∙ h) in
+ret_tail_found : (xs : List Symbol) (ts : List Token) → halt (TailOf tail.Ret ∷ xs) ts ≡ None → Found (IsBody ts) xs ts
+ret_tail_found xs ts h =
+    let p = word_taken w.Ret (Expr ∷ xs) ts (sym (halt-ret_tail xs ts) ∙ h) in
     let e = expr_found xs p.rest p.takes in
     record { tree = ret_tail p.at e.tree; rest = e.rest; is = give_made ts p.rest e.rest p.at e.tree p.is e.is; shorter = omega (arith, p.shorter, e.shorter); takes = e.takes }
 
-returned_found : (xs : List Symbol) (ts : List Token) → halt (ActionOf action.Returned ∷ xs) ts ≡ None → Found (IsAct ts) xs ts
-returned_found xs ts h =
-    let p = word_taken w.Ret (Expr ∷ xs) ts (sym (halt-returned xs ts) ∙ h) in
+ret_found : (xs : List Symbol) (ts : List Token) → halt (ActionOf action.Ret ∷ xs) ts ≡ None → Found (IsAct ts) xs ts
+ret_found xs ts h =
+    let p = word_taken w.Ret (Expr ∷ xs) ts (sym (halt-ret xs ts) ∙ h) in
     let e = expr_found xs p.rest p.takes in
     record { tree = (p.at, ret e.tree); rest = e.rest; is = ret_made ts p.rest e.rest p.at e.tree p.is e.is; shorter = omega (arith, p.shorter, e.shorter); takes = e.takes }
 
@@ -146,9 +146,9 @@ module _ (n : ℕ) (below : Sound n) where
       let b = below.rest_found xs p.rest (omega (arith, p.shorter)) p.takes in
       record { tree = block p.at b.tree; rest = b.rest; is = body_made ts p.rest b.rest p.at b.is.0 b.tree p.is b.is.1; shorter = omega (arith, p.shorter, b.shorter); takes = b.takes }
 
-  branch_found : (xs : List Symbol) (ts : List Token) → length ts ≤ n → halt (TailOf tail.Branch ∷ xs) ts ≡ None → Found (IsBody ts) xs ts
-  branch_found xs ts l h =
-      let p = word_taken w.If (Expr ∷ Block ∷ AWord w.Else ∷ Block ∷ xs) ts (sym (halt-branch xs ts) ∙ h) in
+  if_tail_found : (xs : List Symbol) (ts : List Token) → length ts ≤ n → halt (TailOf tail.If ∷ xs) ts ≡ None → Found (IsBody ts) xs ts
+  if_tail_found xs ts l h =
+      let p = word_taken w.If (Expr ∷ Block ∷ AWord w.Else ∷ Block ∷ xs) ts (sym (halt-if_tail xs ts) ∙ h) in
       let e = expr_found (Block ∷ AWord w.Else ∷ Block ∷ xs) p.rest p.takes in
       let x = below.block_found (AWord w.Else ∷ Block ∷ xs) e.rest (omega (arith, p.shorter, e.shorter)) e.takes in
       let o = word_taken w.Else (Block ∷ xs) x.rest x.takes in
@@ -156,14 +156,14 @@ module _ (n : ℕ) (below : Sound n) where
       record {
         tree = if_tail p.at e.tree x.tree y.tree;
         rest = y.rest;
-        is = branch_made ts p.rest e.rest x.rest o.rest y.rest p.at o.at e.tree x.tree y.tree x.tree y.tree p.is e.is x.is o.is y.is (refl {a = x.tree}) (refl {a = y.tree});
+        is = if_tail_made ts p.rest e.rest x.rest o.rest y.rest p.at o.at e.tree x.tree y.tree x.tree y.tree p.is e.is x.is o.is y.is (refl {a = x.tree}) (refl {a = y.tree});
         shorter = omega (arith, p.shorter, e.shorter, x.shorter, o.shorter, y.shorter);
         takes = y.takes;
       }
 
-  split_found : (xs : List Symbol) (ts : List Token) → length ts ≤ n → halt (TailOf tail.Split ∷ xs) ts ≡ None → Found (IsBody ts) xs ts
-  split_found xs ts l h =
-      let p = word_taken w.Case (Expr ∷ AWord w.Inl ∷ AName ∷ Block ∷ AWord w.Inr ∷ AName ∷ Block ∷ xs) ts (sym (halt-split xs ts) ∙ h) in
+  case_tail_found : (xs : List Symbol) (ts : List Token) → length ts ≤ n → halt (TailOf tail.Case ∷ xs) ts ≡ None → Found (IsBody ts) xs ts
+  case_tail_found xs ts l h =
+      let p = word_taken w.Case (Expr ∷ AWord w.Inl ∷ AName ∷ Block ∷ AWord w.Inr ∷ AName ∷ Block ∷ xs) ts (sym (halt-case_tail xs ts) ∙ h) in
       let e = expr_found (AWord w.Inl ∷ AName ∷ Block ∷ AWord w.Inr ∷ AName ∷ Block ∷ xs) p.rest p.takes in
       let a = word_taken w.Inl (AName ∷ Block ∷ AWord w.Inr ∷ AName ∷ Block ∷ xs) e.rest e.takes in
       let i = name_taken (Block ∷ AWord w.Inr ∷ AName ∷ Block ∷ xs) a.rest a.takes in
@@ -174,15 +174,15 @@ module _ (n : ℕ) (below : Sound n) where
       record {
         tree = case_tail p.at e.tree i.it x.tree j.it y.tree;
         rest = y.rest;
-        is = split_made ts p.rest e.rest a.rest i.rest x.rest b.rest j.rest y.rest p.at a.at b.at i.it j.it e.tree x.tree y.tree x.tree y.tree p.is e.is a.is i.is x.is b.is j.is y.is (refl {a = x.tree}) (refl {a = y.tree});
+        is = case_tail_made ts p.rest e.rest a.rest i.rest x.rest b.rest j.rest y.rest p.at a.at b.at i.it j.it e.tree x.tree y.tree x.tree y.tree p.is e.is a.is i.is x.is b.is j.is y.is (refl {a = x.tree}) (refl {a = y.tree});
         shorter = omega (arith, p.shorter, e.shorter, a.shorter, i.shorter, x.shorter, b.shorter, j.shorter, y.shorter);
         takes = y.takes;
       }
 
   tail_step : (xs : List Symbol) (ts : List Token) → length ts ≤ n → (f : TailForm) → halt (TailOf f ∷ xs) ts ≡ None → Found (IsBody ts) xs ts
-  tail_step xs ts l tail.Give h = give_found xs ts h
-  tail_step xs ts l tail.Branch h = branch_found xs ts l h
-  tail_step xs ts l tail.Split h = split_found xs ts l h
+  tail_step xs ts l tail.Ret h = ret_tail_found xs ts h
+  tail_step xs ts l tail.If h = if_tail_found xs ts l h
+  tail_step xs ts l tail.Case h = case_tail_found xs ts l h
 
   end_found : (xs : List Symbol) (ts : List Token) → length ts ≤ n → halt (Tail ∷ ASign s.CloseBrace ∷ xs) ts ≡ None → Found (IsRest ts) xs ts
   end_found xs ts l h =
@@ -224,18 +224,18 @@ module _ (n : ℕ) (below : Sound n) where
         takes = b.takes;
       }
 
-  run_found : (xs : List Symbol) (ts : List Token) → length ts ≤ n → halt (ActionOf action.Run ∷ xs) ts ≡ None → Found (IsAct ts) xs ts
-  run_found xs ts l h =
-      let p = word_taken w.Do (Block ∷ xs) ts (sym (halt-run xs ts) ∙ h) in
+  do_block_found : (xs : List Symbol) (ts : List Token) → length ts ≤ n → halt (ActionOf action.Do ∷ xs) ts ≡ None → Found (IsAct ts) xs ts
+  do_block_found xs ts l h =
+      let p = word_taken w.Do (Block ∷ xs) ts (sym (halt-do_block xs ts) ∙ h) in
       let b = below.block_found xs p.rest (omega (arith, p.shorter)) p.takes in
       record { tree = (p.at, do_block b.tree); rest = b.rest; is = run_made ts p.rest b.rest p.at b.tree b.tree p.is b.is (refl {a = b.tree}); shorter = omega (arith, p.shorter, b.shorter); takes = b.takes }
 
   action_step : (xs : List Symbol) (ts : List Token) → length ts ≤ n → (f : ActionForm) → halt (ActionOf f ∷ xs) ts ≡ None → Found (IsAct ts) xs ts
-  action_step xs ts l action.Returned h = returned_found xs ts h
+  action_step xs ts l action.Ret h = ret_found xs ts h
   action_step xs ts l action.Spawn h = spawn_found xs ts l h
   action_step xs ts l action.Sync h = sync_found xs ts h
   action_step xs ts l action.Call h = call_it xs ts h
-  action_step xs ts l action.Run h = run_found xs ts l h
+  action_step xs ts l action.Do h = do_block_found xs ts l h
   action_step xs ts l action.Input h = input_found xs ts h
   action_step xs ts l action.Output h = output_found xs ts h
 
@@ -274,7 +274,7 @@ head_end_found xs ts h true e =
     record { tree = []; rest = d.rest; is = head.no_given_made ts c.rest d.rest c.at d.at [] c.is d.is refl; shorter = omega (arith, c.shorter, d.shorter); takes = d.takes }
 head_end_found xs ts h false e =
     let p = sign_taken s.Semicolon (Separated Given brackets ∷ ASign s.OpenParen ∷ xs) ts (sym (halt-head_given xs ts) ∙ sym (head-given xs ts e) ∙ h) in
-    let l = separated_found IsGiven Given brackets given_found (ASign s.OpenParen ∷ xs) p.rest p.takes in
+    let l = separated_found IsConstraint Given brackets given_found (ASign s.OpenParen ∷ xs) p.rest p.takes in
     let c = brackets_taken (ASign s.OpenParen ∷ xs) l.rest l.takes in
     let d = sign_taken s.OpenParen xs c.rest c.takes in
     record {

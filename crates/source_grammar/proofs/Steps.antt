@@ -12,9 +12,9 @@ use Rattle.source_grammar.specs.declared.choice.ExprForm.TheVariants as expr
 use Rattle.source_grammar.specs.declared.choice.Joint.{Joint}
 use Rattle.source_grammar.specs.declared.cursor.Stop.{Stop}
 use Rattle.source_grammar.specs.declared.cursor.Stop.TheVariants as stop
-use Rattle.source_grammar.specs.Stops.{Moves, MovesTo}
-use Rattle.source_grammar.specs.Next.{is_at, form_at, is_sign, ty_form, mid_form, expr_form, joint_form, prefix_word, side_word}
-use Rattle.source_grammar.specs.Machine.{Symbol, rule, halt, go_on, and_then, by_form, rule_bracketed, rule_joined, AName, AWord, ASign, Ty, TyOf, TyMid, Expr, ExprOf, Inside, Bracketed, Behind, Joined, AJoint, Given, Parameter}
+use Rattle.source_grammar.specs.Inside.Stops.{Moves, MovesTo}
+use Rattle.source_grammar.specs.Inside.Next.{is_at, form_at, is_sign, ty_form, mid_form, expr_form, joint_form, prefix_word, side_word}
+use Rattle.source_grammar.specs.Inside.Machine.{Symbol, rule, halt, go_on, and_then, by_form, rule_bracketed, rule_joined, AName, AWord, ASign, Ty, TyOf, TyMid, Expr, ExprOf, Inside, Bracketed, Behind, Joined, AJoint, Given, Parameter}
 
 pub halt-some : (x : Symbol) (xs ys : List Symbol) (t : Token) (ts : List Token) → rule x t.kind ≡ Some ys → halt (x ∷ xs) (t ∷ ts) ≡ halt (ys ++ xs) ts
 unfolding halt

@@ -10,10 +10,10 @@ use Rattle.source_tokens.specs.declared.token.Sign.{Sign}
 use Rattle.source_tokens.specs.declared.token.Sign.TheVariants as s
 use Rattle.source_grammar.specs.declared.raw.Name.{Name}
 use Rattle.source_grammar.specs.Grammar.{token, name}
-use Rattle.source_grammar.specs.Joined.{IsToken}
-use Rattle.source_grammar.specs.Next.{word_number, sign_number}
+use Rattle.source_grammar.specs.Inside.Joined.{IsToken}
+use Rattle.source_grammar.specs.Inside.Next.{word_number, sign_number}
 use Rattle.source_tokens.proofs.Tables.{words, signs, same_item}
-use Rattle.source_grammar.specs.Machine.{Symbol, rule, halt, go_on, by_form, AName, AWord, ASign}
+use Rattle.source_grammar.specs.Inside.Machine.{Symbol, rule, halt, go_on, by_form, AName, AWord, ASign}
 
 -- A word and a sign are known by their numbers.
 word_back : (x : Word) → slice_get words (word_number x) ≡ Some x

@@ -5,7 +5,7 @@ use Rattle.std.proofs.lemmas.Option.{slice_get-get_or, slice_get_past}
 use Rattle.std.proofs.lemmas.Grind.{common_steps}
 use Rattle.source_tokens.specs.declared.token.Token.{Token}
 use Rattle.source_grammar.specs.Faults.{kinds, Viable, IsUnexpected}
-use Rattle.source_grammar.specs.Machine.{halt, Program}
+use Rattle.source_grammar.specs.Inside.Machine.{halt, Program}
 use Rattle.source_grammar.proofs.Moves.{no_program, program_moves}
 use Rattle.source_grammar.proofs.SoundBlocks.{program_found}
 use Rattle.source_grammar.proofs.Viable.{goes_on, refused_at, same_kinds, halt_rest}

@@ -8,8 +8,8 @@ use Rattle.source_tokens.specs.declared.token.Sign.TheVariants as s
 use Rattle.priml_syntax.specs.declared.expr.Op.{Op}
 use Rattle.source_grammar.specs.declared.raw.Name.{Name}
 use Rattle.source_grammar.specs.RawTree.{RawType, RawTerm, RawCode, block, RawBody, ret_tail, RawAct, ret, spawn, do_block, output, WrittenType, Parameter, RawRoutine, RawProcedure, Declaration, priority, order, RawTree}
-use Rattle.source_grammar.specs.Grammar.{token, sign, word, name, IsSeparated, IsListed, IsName, IsType, IsWritten, IsOp, IsExpr, IsPriorities, IsBlock, IsBody, IsAction, IsGiven, IsParameter, IsHead, IsRoutine, IsProcedure, IsDecls, IsMain, IsProgram}
-use Rattle.source_grammar.specs.Next.{is_at, is_end, is_sign}
+use Rattle.source_grammar.specs.Grammar.{token, sign, word, name, IsSeparated, IsListed, IsName, IsType, IsWritten, IsOp, IsExpr, IsPriorities, IsBlock, IsBody, IsAction, IsConstraint, IsParameter, IsHead, IsRoutine, IsProcedure, IsDecls, IsMain, IsProgram}
+use Rattle.source_grammar.specs.Inside.Next.{is_at, is_end, is_sign}
 use Rattle.source_grammar.proofs.Moves.{ItemStarts, separated_starts, name_starts, expr_starts, parameter_starts, end_no_comma}
 
 same_end : {x y : Token} {ts us : List Token} → ◌≡◌ {A = List Token} (x ∷ ts) (y ∷ us) → ts ≡ us
@@ -119,22 +119,22 @@ expr_unique (IsExpr.is_var n) (IsExpr.is_var n') = (refl, refl)
 expr_unique (IsExpr.is_number at n) (IsExpr.is_number at' n') = (refl, refl)
 expr_unique (IsExpr.is_true at) (IsExpr.is_true at') = (refl, refl)
 expr_unique (IsExpr.is_false at) (IsExpr.is_false at') = (refl, refl)
-expr_unique (IsExpr.is_nothing at close) (IsExpr.is_nothing at' close') = (refl, refl)
-expr_unique (IsExpr.is_nothing at close) (IsExpr.is_inside at' close' x) = absurd (no_expr x)
-expr_unique (IsExpr.is_nothing at close) (IsExpr.is_both at' comma close' x y) = absurd (no_expr x)
-expr_unique (IsExpr.is_nothing at close) (IsExpr.is_binary at' mid close' kind op x o y) = absurd (no_expr x)
-expr_unique (IsExpr.is_inside at close x) (IsExpr.is_nothing at' close') = absurd (no_expr x)
-expr_unique (IsExpr.is_both at comma close x y) (IsExpr.is_nothing at' close') = absurd (no_expr x)
-expr_unique (IsExpr.is_binary at mid close kind op x o y) (IsExpr.is_nothing at' close') = absurd (no_expr x)
+expr_unique (IsExpr.is_unit_term at close) (IsExpr.is_unit_term at' close') = (refl, refl)
+expr_unique (IsExpr.is_unit_term at close) (IsExpr.is_inside at' close' x) = absurd (no_expr x)
+expr_unique (IsExpr.is_unit_term at close) (IsExpr.is_pair_term at' comma close' x y) = absurd (no_expr x)
+expr_unique (IsExpr.is_unit_term at close) (IsExpr.is_binary at' mid close' kind op x o y) = absurd (no_expr x)
+expr_unique (IsExpr.is_inside at close x) (IsExpr.is_unit_term at' close') = absurd (no_expr x)
+expr_unique (IsExpr.is_pair_term at comma close x y) (IsExpr.is_unit_term at' close') = absurd (no_expr x)
+expr_unique (IsExpr.is_binary at mid close kind op x o y) (IsExpr.is_unit_term at' close') = absurd (no_expr x)
 expr_unique (IsExpr.is_inside at close x) (IsExpr.is_inside at' close' x') = let p = expr_unique x x' in (same_end p.0, p.1)
-expr_unique (IsExpr.is_inside at close x) (IsExpr.is_both at' comma close' x' y) = let p = expr_unique x x' in absurd (close_comma p.0)
+expr_unique (IsExpr.is_inside at close x) (IsExpr.is_pair_term at' comma close' x' y) = let p = expr_unique x x' in absurd (close_comma p.0)
 expr_unique (IsExpr.is_inside at close x) (IsExpr.is_binary at' mid close' kind op x' o y) = let p = expr_unique x x' in absurd (op_close o (sym p.0))
-expr_unique (IsExpr.is_both at comma close x y) (IsExpr.is_inside at' close' x') = let p = expr_unique x x' in absurd (close_comma (sym p.0))
-expr_unique (IsExpr.is_both at comma close x y) (IsExpr.is_both at' comma' close' x' y') =
+expr_unique (IsExpr.is_pair_term at comma close x y) (IsExpr.is_inside at' close' x') = let p = expr_unique x x' in absurd (close_comma (sym p.0))
+expr_unique (IsExpr.is_pair_term at comma close x y) (IsExpr.is_pair_term at' comma' close' x' y') =
     let p = expr_unique x x' in let q = expr_unique y (along_expr (same_end p.0) y') in (same_end q.0, cc (p.1, q.1))
-expr_unique (IsExpr.is_both at comma close x y) (IsExpr.is_binary at' mid close' kind op x' o y') = let p = expr_unique x x' in absurd (op_comma o (sym p.0))
+expr_unique (IsExpr.is_pair_term at comma close x y) (IsExpr.is_binary at' mid close' kind op x' o y') = let p = expr_unique x x' in absurd (op_comma o (sym p.0))
 expr_unique (IsExpr.is_binary at mid close kind op x o y) (IsExpr.is_inside at' close' x') = let p = expr_unique x x' in absurd (op_close o p.0)
-expr_unique (IsExpr.is_binary at mid close kind op x o y) (IsExpr.is_both at' comma' close' x' y') = let p = expr_unique x x' in absurd (op_comma o p.0)
+expr_unique (IsExpr.is_binary at mid close kind op x o y) (IsExpr.is_pair_term at' comma' close' x' y') = let p = expr_unique x x' in absurd (op_comma o p.0)
 expr_unique (IsExpr.is_binary at mid close kind op x o y) (IsExpr.is_binary at' mid' close' kind' op' x' o' y') =
     let p = expr_unique x x' in let q = expr_unique y (along_expr (same_end p.0) y') in let r = same_op (same_kind p.0) o o' in (same_end q.0, cc (p.1, q.1, r))
 expr_unique (IsExpr.is_first at a close x) (IsExpr.is_first at' a' close' x') = let p = expr_unique x x' in (same_end p.0, cc p.1)
@@ -168,13 +168,13 @@ mutual
   block_unique (IsBlock.is_block at close b) (IsBlock.is_block at' close' b') = let p = body_unique b b' in (same_end p.0, ap (block at) p.1)
 
   body_unique : {ts rest rest' : List Token} {b b' : RawBody} → IsBody ts rest b → IsBody ts rest' b' → (rest ≡ rest') × (b ≡ b')
-  body_unique (IsBody.is_give at e) (IsBody.is_give at' e') = let p = expr_unique e e' in (p.0, ap (ret_tail at) p.1)
-  body_unique (IsBody.is_branch at o e x y) (IsBody.is_branch at' o' e' x' y') =
+  body_unique (IsBody.is_ret_tail at e) (IsBody.is_ret_tail at' e') = let p = expr_unique e e' in (p.0, ap (ret_tail at) p.1)
+  body_unique (IsBody.is_if_tail at o e x y) (IsBody.is_if_tail at' o' e' x' y') =
       let p = expr_unique e e' in
       let q = block_unique x (along_block p.0 x') in
       let r = block_unique y (along_block (same_end q.0) y') in
       (r.0, cc (p.1, q.1, r.1))
-  body_unique (IsBody.is_split at b c m n e x y) (IsBody.is_split at' b' c' m' n' e' x' y') =
+  body_unique (IsBody.is_case_tail at b c m n e x y) (IsBody.is_case_tail at' b' c' m' n' e' x' y') =
       let p = expr_unique e e' in
       let i = same_name (same_end p.0) in
       let q = block_unique x (along_block i.1 x') in
@@ -194,13 +194,13 @@ mutual
       let p = priorities_unique ps ps' in
       let q = listed_unique (λ ts r r' x x' h h'. expr_unique h h') expr_starts es (along_exprs p.0 es') refl refl in
       (refl, same_end q.0, cc (p.1, q.1))
-  action_unique (IsAction.is_run at b) (IsAction.is_run at' b') = let q = block_unique b b' in (refl, q.0, ap do_block q.1)
+  action_unique (IsAction.is_do_block at b) (IsAction.is_do_block at' b') = let q = block_unique b b' in (refl, q.0, ap do_block q.1)
   action_unique (IsAction.is_input at) (IsAction.is_input at') = (refl, refl, refl)
   action_unique (IsAction.is_output at e) (IsAction.is_output at' e') = let p = expr_unique e e' in (refl, p.0, ap output p.1)
 
 -- Procedures and programs.
-given_unique : ItemUnique IsGiven
-given_unique _ _ _ _ _ (IsGiven.is_given p q at) (IsGiven.is_given p' q' at') = (refl, refl)
+given_unique : ItemUnique IsConstraint
+given_unique _ _ _ _ _ (IsConstraint.is_constraint p q at) (IsConstraint.is_constraint p' q' at') = (refl, refl)
 
 parameter_unique : ItemUnique IsParameter
 parameter_unique _ _ _ _ _ (IsParameter.is_parameter n colon t) (IsParameter.is_parameter n' colon' t') = let p = written_unique t t' in (p.0, cc p.1)

@@ -11,13 +11,13 @@ use Rattle.source_grammar.specs.Faults.{kinds}
 use Rattle.source_grammar.specs.Grammar.{token, sign, word}
 use Rattle.source_grammar.specs.declared.choice.Prefix.TheVariants as prefix
 use Rattle.source_grammar.specs.declared.choice.Side.TheVariants as side
-use Rattle.source_grammar.specs.Next.{is_word, is_sign, prefix_word, side_word}
+use Rattle.source_grammar.specs.Inside.Next.{is_word, is_sign, prefix_word, side_word}
 use Rattle.source_grammar.specs.declared.choice.TyForm.TheVariants as ty
 use Rattle.source_grammar.specs.declared.choice.ExprForm.TheVariants as expr
 use Rattle.source_grammar.specs.declared.choice.TailForm.TheVariants as tail
 use Rattle.source_grammar.specs.declared.choice.ActionForm.TheVariants as action
-use Rattle.source_grammar.specs.Machine.{Symbol, End, parens, brackets, variables, rule, halt, go_on, AName, AWord, ASign, AtEnd, BehindComma, More, Separated, Listed, Ty, TyOf, TyMid, Expr, ExprOf, Inside, Bracketed, Behind, Joined, AJoint, Block, Binds, Bind, Tail, TailOf, Action, ActionOf, CallOpen, CallPriorities, Program, Priority, Order, Procedure, Main, Routine, HeadOpen, HeadVariables, HeadEnd, HeadClose, HeadGiven, Given}
-use Rattle.source_grammar.specs.Machine as m
+use Rattle.source_grammar.specs.Inside.Machine.{Symbol, End, parens, brackets, variables, rule, halt, go_on, AName, AWord, ASign, AtEnd, BehindComma, More, Separated, Listed, Ty, TyOf, TyMid, Expr, ExprOf, Inside, Bracketed, Behind, Joined, AJoint, Block, Binds, Bind, Tail, TailOf, Action, ActionOf, CallOpen, CallPriorities, Program, Priority, Order, Procedure, Main, Routine, HeadOpen, HeadVariables, HeadEnd, HeadClose, HeadGiven, Given}
+use Rattle.source_grammar.specs.Inside.Machine as m
 use Rattle.source_grammar.proofs.CommaLists.{halt-separated}
 use Rattle.source_grammar.proofs.Steps.{halt-some}
 
@@ -84,15 +84,15 @@ completion Block = sign 0 s.OpenBrace ∷ word 0 w.Ret ∷ a_name ∷ sign 0 s.C
 completion Binds = word 0 w.Ret ∷ a_name ∷ sign 0 s.CloseBrace ∷ []
 completion Bind = a_name ∷ sign 0 s.Arrow ∷ word 0 w.Ret ∷ a_name ∷ sign 0 s.Semicolon ∷ []
 completion Tail = word 0 w.Ret ∷ a_name ∷ []
-completion (TailOf tail.Give) = word 0 w.Ret ∷ a_name ∷ []
-completion (TailOf tail.Branch) = word 0 w.If ∷ a_name ∷ sign 0 s.OpenBrace ∷ word 0 w.Ret ∷ a_name ∷ sign 0 s.CloseBrace ∷ word 0 w.Else ∷ sign 0 s.OpenBrace ∷ word 0 w.Ret ∷ a_name ∷ sign 0 s.CloseBrace ∷ []
-completion (TailOf tail.Split) = word 0 w.Case ∷ a_name ∷ word 0 w.Inl ∷ a_name ∷ sign 0 s.OpenBrace ∷ word 0 w.Ret ∷ a_name ∷ sign 0 s.CloseBrace ∷ word 0 w.Inr ∷ a_name ∷ sign 0 s.OpenBrace ∷ word 0 w.Ret ∷ a_name ∷ sign 0 s.CloseBrace ∷ []
+completion (TailOf tail.Ret) = word 0 w.Ret ∷ a_name ∷ []
+completion (TailOf tail.If) = word 0 w.If ∷ a_name ∷ sign 0 s.OpenBrace ∷ word 0 w.Ret ∷ a_name ∷ sign 0 s.CloseBrace ∷ word 0 w.Else ∷ sign 0 s.OpenBrace ∷ word 0 w.Ret ∷ a_name ∷ sign 0 s.CloseBrace ∷ []
+completion (TailOf tail.Case) = word 0 w.Case ∷ a_name ∷ word 0 w.Inl ∷ a_name ∷ sign 0 s.OpenBrace ∷ word 0 w.Ret ∷ a_name ∷ sign 0 s.CloseBrace ∷ word 0 w.Inr ∷ a_name ∷ sign 0 s.OpenBrace ∷ word 0 w.Ret ∷ a_name ∷ sign 0 s.CloseBrace ∷ []
 completion Action = word 0 w.Ret ∷ a_name ∷ []
-completion (ActionOf action.Returned) = word 0 w.Ret ∷ a_name ∷ []
+completion (ActionOf action.Ret) = word 0 w.Ret ∷ a_name ∷ []
 completion (ActionOf action.Spawn) = word 0 w.Spawn ∷ sign 0 s.OpenBracket ∷ a_name ∷ sign 0 s.CloseBracket ∷ sign 0 s.OpenBrace ∷ word 0 w.Ret ∷ a_name ∷ sign 0 s.CloseBrace ∷ []
 completion (ActionOf action.Sync) = word 0 w.Sync ∷ a_name ∷ []
 completion (ActionOf action.Call) = word 0 w.Call ∷ a_name ∷ sign 0 s.OpenParen ∷ sign 0 s.CloseParen ∷ []
-completion (ActionOf action.Run) = word 0 w.Do ∷ sign 0 s.OpenBrace ∷ word 0 w.Ret ∷ a_name ∷ sign 0 s.CloseBrace ∷ []
+completion (ActionOf action.Do) = word 0 w.Do ∷ sign 0 s.OpenBrace ∷ word 0 w.Ret ∷ a_name ∷ sign 0 s.CloseBrace ∷ []
 completion (ActionOf action.Input) = word 0 w.Input ∷ []
 completion (ActionOf action.Output) = word 0 w.Output ∷ a_name ∷ []
 completion CallOpen = sign 0 s.OpenParen ∷ []
@@ -156,9 +156,9 @@ completes (ExprOf (expr.Applied _)) xs ts = refl
 completes (ExprOf (expr.Injected side.Left)) xs ts = refl
 completes (ExprOf (expr.Injected side.Right)) xs ts = refl
 completes (ExprOf _) xs ts = refl
-completes (TailOf tail.Give) xs ts = refl
+completes (TailOf tail.Ret) xs ts = refl
 completes (TailOf _) xs ts = refl
-completes (ActionOf action.Returned) xs ts = refl
+completes (ActionOf action.Ret) xs ts = refl
 completes (ActionOf _) xs ts = refl
 completes _ xs ts = refl
 

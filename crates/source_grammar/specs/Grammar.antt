@@ -77,10 +77,10 @@ pub data IsExpr : List Token → List Token → RawTerm → Type 0 where
   is_number : (at n : ℕ) {rest : List Token} → IsExpr (token at (k.Number n) ∷ rest) rest (number at n)
   is_true : (at : ℕ) {rest : List Token} → IsExpr (word at w.True ∷ rest) rest (bool_term at true)
   is_false : (at : ℕ) {rest : List Token} → IsExpr (word at w.False ∷ rest) rest (bool_term at false)
-  is_nothing : (at close : ℕ) {rest : List Token} → IsExpr (sign at s.OpenParen ∷ sign close s.CloseParen ∷ rest) rest (unit_term at)
+  is_unit_term : (at close : ℕ) {rest : List Token} → IsExpr (sign at s.OpenParen ∷ sign close s.CloseParen ∷ rest) rest (unit_term at)
   is_inside : (at close : ℕ) {ts rest : List Token} {x : RawTerm}
       → IsExpr ts (sign close s.CloseParen ∷ rest) x → IsExpr (sign at s.OpenParen ∷ ts) rest x
-  is_both : (at comma close : ℕ) {ts us rest : List Token} {x y : RawTerm}
+  is_pair_term : (at comma close : ℕ) {ts us rest : List Token} {x y : RawTerm}
       → IsExpr ts (sign comma s.Comma ∷ us) x → IsExpr us (sign close s.CloseParen ∷ rest) y
       → IsExpr (sign at s.OpenParen ∷ ts) rest (pair_term at x y)
   is_binary : (at mid close : ℕ) (kind : Kind) (op : Op) {ts us rest : List Token} {x y : RawTerm}
@@ -114,11 +114,11 @@ mutual
 
   -- bound actions, as far as names come, and then the ending
   pub data IsBody : List Token → List Token → RawBody → Type 0 where
-    is_give : (at : ℕ) {ts rest : List Token} {e : RawTerm} → IsExpr ts rest e → IsBody (word at w.Ret ∷ ts) rest (ret_tail at e)
-    is_branch : (at other : ℕ) {ts us vs rest : List Token} {e : RawTerm} {x y : RawCode}
+    is_ret_tail : (at : ℕ) {ts rest : List Token} {e : RawTerm} → IsExpr ts rest e → IsBody (word at w.Ret ∷ ts) rest (ret_tail at e)
+    is_if_tail : (at other : ℕ) {ts us vs rest : List Token} {e : RawTerm} {x y : RawCode}
         → IsExpr ts us e → IsBlock us (word other w.Else ∷ vs) x → IsBlock vs rest y
         → IsBody (word at w.If ∷ ts) rest (if_tail at e x y)
-    is_split : (at b c : ℕ) (m n : Name) {ts us vs rest : List Token} {e : RawTerm} {x y : RawCode}
+    is_case_tail : (at b c : ℕ) (m n : Name) {ts us vs rest : List Token} {e : RawTerm} {x y : RawCode}
         → IsExpr ts (word b w.Inl ∷ name m ∷ us) e → IsBlock us (word c w.Inr ∷ name n ∷ vs) x → IsBlock vs rest y
         → IsBody (word at w.Case ∷ ts) rest (case_tail at e m x n y)
     is_bind : (n : Name) (arrow at end : ℕ) {ts us rest : List Token} {a : RawAct} {b : RawBody}
@@ -135,26 +135,26 @@ mutual
     is_call : (at from close : ℕ) (f : Name) {ts us rest : List Token} {ps : List Name} {es : List RawTerm}
         → IsPriorities ts (sign from s.OpenParen ∷ us) ps → IsListed IsExpr us (sign close s.CloseParen ∷ rest) es
         → IsAction (word at w.Call ∷ name f ∷ ts) rest at (call f ps es)
-    is_run : (at : ℕ) {ts rest : List Token} {b : RawCode} → IsBlock ts rest b → IsAction (word at w.Do ∷ ts) rest at (do_block b)
+    is_do_block : (at : ℕ) {ts rest : List Token} {b : RawCode} → IsBlock ts rest b → IsAction (word at w.Do ∷ ts) rest at (do_block b)
     is_input : (at : ℕ) {rest : List Token} → IsAction (word at w.Input ∷ rest) rest at input
     is_output : (at : ℕ) {ts rest : List Token} {e : RawTerm} → IsExpr ts rest e → IsAction (word at w.Output ∷ ts) rest at (output e)
 
--- a given pair of priorities: the first is at most the second
-pub data IsGiven : List Token → List Token → Name × Name → Type 0 where
-  is_given : (p q : Name) (at : ℕ) {rest : List Token} → IsGiven (name p ∷ sign at s.AtMost ∷ name q ∷ rest) rest (p, q)
+-- a constraint: the first priority is at most the second
+pub data IsConstraint : List Token → List Token → Name × Name → Type 0 where
+  is_constraint : (p q : Name) (at : ℕ) {rest : List Token} → IsConstraint (name p ∷ sign at s.AtMost ∷ name q ∷ rest) rest (p, q)
 
 -- a parameter
 pub data IsParameter : List Token → List Token → Parameter → Type 0 where
   is_parameter : (n : Name) (colon : ℕ) {ts rest : List Token} {t : WrittenType} → IsWritten ts rest t
       → IsParameter (name n ∷ sign colon s.Colon ∷ ts) rest (record { name = n; ty = t })
 
--- the priority variables and the given pairs of a procedure, in square brackets or left out before the bracket of the parameters
+-- the priority variables and the constraints of a procedure, in square brackets or left out before the bracket of the parameters
 pub data IsHead : List Token → List Token → List Name → List (Name × Name) → Type 0 where
   absent : (at : ℕ) {rest : List Token} → IsHead (sign at s.OpenParen ∷ rest) (sign at s.OpenParen ∷ rest) [] []
   free : (at close : ℕ) {ts rest : List Token} {ns : List Name}
       → IsListed IsName ts (sign close s.CloseBracket ∷ rest) ns → IsHead (sign at s.OpenBracket ∷ ts) rest ns []
   bound : (at mid close : ℕ) {ts us rest : List Token} {ns : List Name} {gs : List (Name × Name)}
-      → IsListed IsName ts (sign mid s.Semicolon ∷ us) ns → IsSeparated IsGiven us (sign close s.CloseBracket ∷ rest) gs
+      → IsListed IsName ts (sign mid s.Semicolon ∷ us) ns → IsSeparated IsConstraint us (sign close s.CloseBracket ∷ rest) gs
       → IsHead (sign at s.OpenBracket ∷ ts) rest ns gs
 
 -- an own priority, a result type and a body, for a routine whose place is `at`

@@ -1,11 +1,6 @@
-pub mod Ends
 pub mod Faults
 pub mod Grammar
-pub mod Joined
 pub mod Laws
-pub mod Lists
-pub mod Machine
-pub mod Next
 pub mod RawRead
 pub mod RawTree
-pub mod Stops
+pub mod Inside

@@ -6,9 +6,9 @@ ghost use Rattle.source_tokens.specs.declared.token.Sign.TheVariants as a_sign;
 ghost use Rattle.source_grammar.specs.declared.choice.ActionForm.TheVariants as a_action;
 ghost use Rattle.source_grammar.specs.declared.choice.TailForm.TheVariants as a_tail;
 ghost use Rattle.source_grammar.specs.Grammar.{IsAction, IsBody, IsPriorities, sign};
-ghost use Rattle.source_grammar.specs.Machine.{ASign, ActionOf, CallOpen, CallPriorities, TailOf};
+ghost use Rattle.source_grammar.specs.Inside.Machine.{ASign, ActionOf, CallOpen, CallPriorities, TailOf};
 ghost use Rattle.source_grammar.specs.RawRead.{read_action, read_tail};
-ghost use Rattle.source_grammar.specs.Stops.{Moves};
+ghost use Rattle.source_grammar.specs.Inside.Stops.{Moves};
 
 use crate::cursor::{Stop, Tokens};
 use crate::expr::expr;
@@ -18,9 +18,9 @@ use source_tokens::token::{Sign, Word};
 use std::alloc::{AllocError, Global};
 
 /// An ending that gives a value.
-pub fn give(alloc: Global, tokens: &mut Tokens) -> Result<RawTail, Stop>
+pub fn ret_tail(alloc: Global, tokens: &mut Tokens) -> Result<RawTail, Stop>
     ensures ok { IfOk result (λ t. IsBody tokens.old tokens.new (read_tail t.form t.at)) }
-    ensures moves { Moves (TailOf a_tail.Give) tokens.old tokens.new result }
+    ensures moves { Moves (TailOf a_tail.Ret) tokens.old tokens.new result }
     ensures shorter { IfOk result (λ _. length tokens.new < length tokens.old) }
 {
     let at = tokens.expect_word(Word::Ret)?;
@@ -32,9 +32,9 @@ pub fn give(alloc: Global, tokens: &mut Tokens) -> Result<RawTail, Stop>
 }
 
 /// The action that gives a value.
-pub fn returned(alloc: Global, tokens: &mut Tokens) -> Result<(u64, RawAction), Stop>
+pub fn ret(alloc: Global, tokens: &mut Tokens) -> Result<(u64, RawAction), Stop>
     ensures ok { IfOk result (λ a. IsAction tokens.old tokens.new a.0 (read_action a.1)) }
-    ensures moves { Moves (ActionOf a_action.Returned) tokens.old tokens.new result }
+    ensures moves { Moves (ActionOf a_action.Ret) tokens.old tokens.new result }
     ensures shorter { IfOk result (λ _. length tokens.new < length tokens.old) }
 {
     let at = tokens.expect_word(Word::Ret)?;

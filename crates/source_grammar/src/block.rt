@@ -6,13 +6,13 @@ ghost use Rattle.source_tokens.specs.declared.token.Sign.TheVariants as a_sign;
 ghost use Rattle.source_grammar.specs.declared.choice.ActionForm.TheVariants as a_action;
 ghost use Rattle.source_grammar.specs.declared.choice.TailForm.TheVariants as a_tail;
 ghost use Rattle.source_grammar.specs.Grammar.{IsAction, IsBlock, IsBody};
-ghost use Rattle.source_grammar.specs.Lists.{body_of};
-ghost use Rattle.source_grammar.specs.Machine.{ASign, Action, ActionOf, Bind, Binds, Block, Tail, TailOf};
+ghost use Rattle.source_grammar.specs.Inside.Lists.{body_of};
+ghost use Rattle.source_grammar.specs.Inside.Machine.{ASign, Action, ActionOf, Bind, Binds, Block, Tail, TailOf};
 ghost use Rattle.source_grammar.specs.RawRead.{read_action, read_block, read_tail};
 ghost use Rattle.source_grammar.specs.RawTree.{RawBody};
-ghost use Rattle.source_grammar.specs.Stops.{Moves, MovesTo};
+ghost use Rattle.source_grammar.specs.Inside.Stops.{Moves, MovesTo};
 
-use crate::action::{call, give, input, output, returned, sync};
+use crate::action::{call, input, output, ret, ret_tail, sync};
 use crate::choice::{ActionForm, TailForm};
 use crate::cursor::{Stop, Tokens};
 use crate::expr::expr;
@@ -75,11 +75,11 @@ fn action(alloc: Global, tokens: &mut Tokens) -> Result<(u64, RawAction), Stop>
     ensures shorter { IfOk result (λ _. length tokens.new < length tokens.old) }
 {
     match tokens.action_form() {
-        Some(ActionForm::Returned) => returned(alloc, tokens),
+        Some(ActionForm::Ret) => ret(alloc, tokens),
         Some(ActionForm::Spawn) => spawn(alloc, tokens),
         Some(ActionForm::Sync) => sync(tokens),
         Some(ActionForm::Call) => call(alloc, tokens),
-        Some(ActionForm::Run) => run(alloc, tokens),
+        Some(ActionForm::Do) => do_block(alloc, tokens),
         Some(ActionForm::Input) => input(tokens),
         Some(ActionForm::Output) => output(alloc, tokens),
         None => Err(Stop::Syntax),
@@ -101,9 +101,9 @@ fn spawn(alloc: Global, tokens: &mut Tokens) -> Result<(u64, RawAction), Stop>
 }
 
 #[cycle(block)]
-fn run(alloc: Global, tokens: &mut Tokens) -> Result<(u64, RawAction), Stop>
+fn do_block(alloc: Global, tokens: &mut Tokens) -> Result<(u64, RawAction), Stop>
     ensures ok { IfOk result (λ a. IsAction tokens.old tokens.new a.0 (read_action a.1)) }
-    ensures moves { Moves (ActionOf a_action.Run) tokens.old tokens.new result }
+    ensures moves { Moves (ActionOf a_action.Do) tokens.old tokens.new result }
     ensures shorter { IfOk result (λ _. length tokens.new < length tokens.old) }
 {
     let at = tokens.expect_word(Word::Do)?;
@@ -120,18 +120,18 @@ fn tail(alloc: Global, tokens: &mut Tokens) -> Result<RawTail, Stop>
     ensures shorter { IfOk result (λ _. length tokens.new < length tokens.old) }
 {
     match tokens.tail_form() {
-        Some(TailForm::Give) => give(alloc, tokens),
-        Some(TailForm::Branch) => branch(alloc, tokens),
-        Some(TailForm::Split) => split(alloc, tokens),
+        Some(TailForm::Ret) => ret_tail(alloc, tokens),
+        Some(TailForm::If) => if_tail(alloc, tokens),
+        Some(TailForm::Case) => case_tail(alloc, tokens),
         None => Err(Stop::Syntax),
     }
 }
 
 /// An ending by a condition.
 #[cycle(block)]
-fn branch(alloc: Global, tokens: &mut Tokens) -> Result<RawTail, Stop>
+fn if_tail(alloc: Global, tokens: &mut Tokens) -> Result<RawTail, Stop>
     ensures ok { IfOk result (λ t. IsBody tokens.old tokens.new (read_tail t.form t.at)) }
-    ensures moves { Moves (TailOf a_tail.Branch) tokens.old tokens.new result }
+    ensures moves { Moves (TailOf a_tail.If) tokens.old tokens.new result }
     ensures shorter { IfOk result (λ _. length tokens.new < length tokens.old) }
 {
     let at = tokens.expect_word(Word::If)?;
@@ -147,9 +147,9 @@ fn branch(alloc: Global, tokens: &mut Tokens) -> Result<RawTail, Stop>
 
 /// An ending by the two sides of a sum.
 #[cycle(block)]
-fn split(alloc: Global, tokens: &mut Tokens) -> Result<RawTail, Stop>
+fn case_tail(alloc: Global, tokens: &mut Tokens) -> Result<RawTail, Stop>
     ensures ok { IfOk result (λ t. IsBody tokens.old tokens.new (read_tail t.form t.at)) }
-    ensures moves { Moves (TailOf a_tail.Split) tokens.old tokens.new result }
+    ensures moves { Moves (TailOf a_tail.Case) tokens.old tokens.new result }
     ensures shorter { IfOk result (λ _. length tokens.new < length tokens.old) }
 {
     let at = tokens.expect_word(Word::Case)?;

@@ -51,11 +51,11 @@ pub enum Joint {
 /// The forms of an action, by its word.
 #[derive(Clone, Copy, Debug)]
 pub enum ActionForm {
-    Returned,
+    Ret,
     Spawn,
     Sync,
     Call,
-    Run,
+    Do,
     Input,
     Output,
 }
@@ -63,9 +63,9 @@ pub enum ActionForm {
 /// The forms of an ending, by its word.
 #[derive(Clone, Copy, Debug)]
 pub enum TailForm {
-    Give,
-    Branch,
-    Split,
+    Ret,
+    If,
+    Case,
 }
 
 /// The forms of a declaration, by its word.

@@ -2,9 +2,9 @@
 
 ghost use Rattle.std.specs.Prelude.{◌≡◌, ◌∷◌, ◌++◌, [], IfOk, OnOk, MatchOption};
 ghost use Rattle.source_grammar.specs.Grammar.{name, sign, word};
-ghost use Rattle.source_grammar.specs.Machine.{AName, ASign, AWord};
-ghost use Rattle.source_grammar.specs.Next.{declaration_form, action_form, expr_form, form_at, is_at, is_end, is_name, is_sign, joint_form, mid_form, tail_form, ty_form};
-ghost use Rattle.source_grammar.specs.Stops.{Moves, MovesAll};
+ghost use Rattle.source_grammar.specs.Inside.Machine.{AName, ASign, AWord};
+ghost use Rattle.source_grammar.specs.Inside.Next.{declaration_form, action_form, expr_form, form_at, is_at, is_end, is_name, is_sign, joint_form, mid_form, tail_form, ty_form};
+ghost use Rattle.source_grammar.specs.Inside.Stops.{Moves, MovesAll};
 ghost use Rattle.source_tokens.specs.Runs.{joined};
 
 use crate::choice::{
@@ -201,11 +201,11 @@ impl<'a> Tokens<'a> {
         ensures { result ≡ form_at action_form self.now }
     {
         match self.peek()?.kind {
-            Kind::Word(Word::Ret) => Some(ActionForm::Returned),
+            Kind::Word(Word::Ret) => Some(ActionForm::Ret),
             Kind::Word(Word::Spawn) => Some(ActionForm::Spawn),
             Kind::Word(Word::Sync) => Some(ActionForm::Sync),
             Kind::Word(Word::Call) => Some(ActionForm::Call),
-            Kind::Word(Word::Do) => Some(ActionForm::Run),
+            Kind::Word(Word::Do) => Some(ActionForm::Do),
             Kind::Word(Word::Input) => Some(ActionForm::Input),
             Kind::Word(Word::Output) => Some(ActionForm::Output),
             _ => None,
@@ -217,9 +217,9 @@ impl<'a> Tokens<'a> {
         ensures { result ≡ form_at tail_form self.now }
     {
         match self.peek()?.kind {
-            Kind::Word(Word::Ret) => Some(TailForm::Give),
-            Kind::Word(Word::If) => Some(TailForm::Branch),
-            Kind::Word(Word::Case) => Some(TailForm::Split),
+            Kind::Word(Word::Ret) => Some(TailForm::Ret),
+            Kind::Word(Word::If) => Some(TailForm::If),
+            Kind::Word(Word::Case) => Some(TailForm::Case),
             _ => None,
         }
     }
@@ -237,7 +237,7 @@ impl<'a> Tokens<'a> {
     }
 
     /// Takes a name.
-    #[tactic(auto, unfolding(crate::specs::Machine::halt))]
+    #[tactic(auto, unfolding(crate::specs::Inside::Machine::halt))]
     pub fn name(&mut self) -> Result<Name, Stop>
         ensures ok { IfOk result (λ n. self.old ≡ name n ∷ self.new) }
         ensures moves { Moves AName self.old self.new result }
@@ -257,7 +257,7 @@ impl<'a> Tokens<'a> {
     }
 
     /// Takes the reserved word that is wanted, and gives its offset.
-    #[tactic(auto, unfolding(crate::specs::Machine::halt))]
+    #[tactic(auto, unfolding(crate::specs::Inside::Machine::halt))]
     pub fn expect_word(&mut self, want: Word) -> Result<u64, Stop>
         ensures ok { IfOk result (λ at. self.old ≡ word at want ∷ self.new) }
         ensures moves { Moves (AWord want) self.old self.new result }
@@ -280,7 +280,7 @@ impl<'a> Tokens<'a> {
     }
 
     /// Takes the sign that is wanted, and gives its offset.
-    #[tactic(auto, unfolding(crate::specs::Machine::halt))]
+    #[tactic(auto, unfolding(crate::specs::Inside::Machine::halt))]
     pub fn expect_sign(&mut self, want: Sign) -> Result<u64, Stop>
         ensures ok { IfOk result (λ at. self.old ≡ sign at want ∷ self.new) }
         ensures moves { Moves (ASign want) self.old self.new result }
@@ -303,7 +303,7 @@ impl<'a> Tokens<'a> {
     }
 
     /// Refuses where tokens are left.
-    #[tactic(auto, unfolding(crate::specs::Machine::halt))]
+    #[tactic(auto, unfolding(crate::specs::Inside::Machine::halt))]
     pub fn expect_end(&self) -> Result<(), Stop>
         ensures ok { OnOk result (self.now ≡ []) }
         ensures moves { MovesAll [] self.now self.now result }

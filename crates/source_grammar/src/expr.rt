@@ -5,11 +5,11 @@ ghost use Rattle.std.specs.Prelude.{◌≡◌, ◌∷◌, ◌<◌, IfOk, length}
 ghost use Rattle.source_tokens.specs.declared.token.Sign.TheVariants as a_sign;
 ghost use Rattle.source_grammar.specs.declared.choice.ExprForm.TheVariants as a_expr;
 ghost use Rattle.source_grammar.specs.Grammar.{IsExpr, sign};
-ghost use Rattle.source_grammar.specs.Joined.{IsToken, joint_term, prefix_term, side_term};
-ghost use Rattle.source_grammar.specs.Machine.{AJoint, ASign, Behind, Bracketed, Expr, ExprOf, Inside, Joined};
-ghost use Rattle.source_grammar.specs.Next.{joint_form, prefix_word, side_word};
+ghost use Rattle.source_grammar.specs.Inside.Joined.{IsToken, joint_term, prefix_term, side_term};
+ghost use Rattle.source_grammar.specs.Inside.Machine.{AJoint, ASign, Behind, Bracketed, Expr, ExprOf, Inside, Joined};
+ghost use Rattle.source_grammar.specs.Inside.Next.{joint_form, prefix_word, side_word};
 ghost use Rattle.source_grammar.specs.RawRead.{read_expr, read_written};
-ghost use Rattle.source_grammar.specs.Stops.{Moves};
+ghost use Rattle.source_grammar.specs.Inside.Stops.{Moves};
 
 use crate::choice::{ExprForm, Joint, Prefix, Side};
 use crate::cursor::{Stop, Tokens};
@@ -37,7 +37,7 @@ pub fn expr(alloc: Global, tokens: &mut Tokens) -> Result<RawExpr, Stop>
 }
 
 /// An expression of one token.
-#[tactic(auto, using(crate::proofs::Forms::forms), unfolding(crate::specs::Machine::halt))]
+#[tactic(auto, using(crate::proofs::Forms::forms), unfolding(crate::specs::Inside::Machine::halt))]
 fn leaf(tokens: &mut Tokens) -> Result<RawExpr, Stop>
     ensures ok { IfOk result (λ e. IsExpr tokens.old tokens.new (read_expr e)) }
     ensures moves { Moves (ExprOf a_expr.Leaf) tokens.old tokens.new result }
@@ -116,14 +116,14 @@ fn inside(alloc: Global, at: u64, tokens: &mut Tokens) -> Result<RawExpr, Stop>
     ensures shorter { IfOk result (λ _. length tokens.new < length tokens.old) }
 {
     if tokens.is_at_sign(Sign::CloseParen) {
-        nothing(at, tokens)
+        unit_term(at, tokens)
     } else {
         bracketed(alloc, at, tokens)
     }
 }
 
 #[tactic(auto, using(crate::proofs::Forms::forms))]
-fn nothing(at: u64, tokens: &mut Tokens) -> Result<RawExpr, Stop>
+fn unit_term(at: u64, tokens: &mut Tokens) -> Result<RawExpr, Stop>
     ensures ok { IfOk result (λ e. IsExpr (sign at a_sign.OpenParen ∷ tokens.old) tokens.new (read_expr e)) }
     ensures moves { Moves (ASign a_sign.CloseParen) tokens.old tokens.new result }
     ensures shorter { IfOk result (λ _. length tokens.new < length tokens.old) }
@@ -186,7 +186,7 @@ fn joined(alloc: Global, at: u64, first: RawExpr, tokens: &mut Tokens) -> Result
 }
 
 /// A comma or an operator.
-#[tactic(auto, using(crate::proofs::Steps::choices), unfolding(crate::specs::Machine::halt))]
+#[tactic(auto, using(crate::proofs::Steps::choices), unfolding(crate::specs::Inside::Machine::halt))]
 fn take_joint(tokens: &mut Tokens) -> Result<Joint, Stop>
     ensures ok { IfOk result (IsToken joint_form tokens.old tokens.new) }
     ensures moves { Moves AJoint tokens.old tokens.new result }

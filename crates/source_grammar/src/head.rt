@@ -4,10 +4,10 @@
 ghost use Rattle.std.specs.Prelude.{◌∷◌, IfOk, ◌<◌, length};
 ghost use Rattle.source_tokens.specs.declared.token.Sign.TheVariants as a_sign;
 ghost use Rattle.source_grammar.specs.Grammar.{IsHead, IsProcedure, IsRoutine, sign};
-ghost use Rattle.source_grammar.specs.Joined.{EndsHead};
-ghost use Rattle.source_grammar.specs.Machine.{ASign, HeadClose, HeadEnd, HeadGiven, HeadOpen, HeadVariables, Procedure, Routine};
+ghost use Rattle.source_grammar.specs.Inside.Joined.{EndsHead};
+ghost use Rattle.source_grammar.specs.Inside.Machine.{ASign, HeadClose, HeadEnd, HeadGiven, HeadOpen, HeadVariables, Procedure, Routine};
 ghost use Rattle.source_grammar.specs.RawRead.{read_main, read_proc};
-ghost use Rattle.source_grammar.specs.Stops.{Moves};
+ghost use Rattle.source_grammar.specs.Inside.Stops.{Moves};
 
 use crate::block::block;
 use crate::cursor::{Stop, Tokens};

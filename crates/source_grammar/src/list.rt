@@ -2,12 +2,12 @@
 
 ghost use Rattle.std.specs.Prelude.{List, ◌∷◌, [], ◌<◌, ◌≤◌, IfOk, length};
 ghost use Rattle.source_tokens.specs.declared.token.Token.{Token};
-ghost use Rattle.source_grammar.specs.Grammar.{IsExpr, IsGiven, IsListed, IsName, IsParameter, IsSeparated};
-ghost use Rattle.source_grammar.specs.Joined.{IsBehindComma};
-ghost use Rattle.source_grammar.specs.Machine.{AName, AtEnd, BehindComma, End, Expr, Given, Listed, Parameter, Separated, Symbol};
+ghost use Rattle.source_grammar.specs.Grammar.{IsConstraint, IsExpr, IsListed, IsName, IsParameter, IsSeparated};
+ghost use Rattle.source_grammar.specs.Inside.Joined.{IsBehindComma};
+ghost use Rattle.source_grammar.specs.Inside.Machine.{AName, AtEnd, BehindComma, End, Expr, Given, Listed, Parameter, Separated, Symbol};
 ghost use Rattle.source_grammar.specs.RawRead.{read_expr, read_param};
-ghost use Rattle.source_grammar.specs.Stops.{Moves, MovesTo};
-ghost use Rattle.source_grammar.specs.Ends.{BeginsOtherwise, expr_no_end, given_no_end, name_no_end, parameter_no_end};
+ghost use Rattle.source_grammar.specs.Inside.Stops.{Moves, MovesTo};
+ghost use Rattle.source_grammar.specs.Inside.Ends.{BeginsOtherwise, expr_no_end, given_no_end, name_no_end, parameter_no_end};
 
 use crate::cursor::{Stop, Tokens};
 use crate::expr::expr;
@@ -63,7 +63,7 @@ impl Item for RawExpr {
 impl Item for (Name, Name) {
     ghost symbol = { Given };
 
-    ghost stands_for = { λ ts rest g. IsGiven ts rest g };
+    ghost stands_for = { λ ts rest g. IsConstraint ts rest g };
 
     ghost begins_otherwise = { given_no_end };
 

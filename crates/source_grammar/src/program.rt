@@ -4,10 +4,10 @@
 ghost use Rattle.std.specs.Prelude.{◌≡◌, ◌∷◌, [], IfOk, IfErr, ◌<◌, length, map};
 ghost use Rattle.source_grammar.specs.Faults.{HasNoTree, TokenIsAt};
 ghost use Rattle.source_grammar.specs.Grammar.{IsDecls, IsMain, IsProgram};
-ghost use Rattle.source_grammar.specs.Machine.{Main, Order, Priority, Program, declaration_symbol};
+ghost use Rattle.source_grammar.specs.Inside.Machine.{Main, Order, Priority, Program, declaration_symbol};
 ghost use Rattle.source_grammar.specs.RawRead.{read_decl, read_main, read_raw};
 ghost use Rattle.source_grammar.specs.RawTree.{RawTree};
-ghost use Rattle.source_grammar.specs.Stops.{Moves, MovesAll, MovesTo};
+ghost use Rattle.source_grammar.specs.Inside.Stops.{Moves, MovesAll, MovesTo};
 ghost use Rattle.source_tokens.specs.Laws.{AreShallow};
 ghost use Rattle.source_tokens.specs.Runs.{joined};
 

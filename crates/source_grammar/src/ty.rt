@@ -4,11 +4,11 @@
 ghost use Rattle.std.specs.Prelude.{◌≡◌, ◌<◌, IfOk, length};
 ghost use Rattle.source_grammar.specs.declared.choice.TyForm.TheVariants as a_ty;
 ghost use Rattle.source_grammar.specs.Grammar.{IsWritten};
-ghost use Rattle.source_grammar.specs.Joined.{IsToken, mid_type};
-ghost use Rattle.source_grammar.specs.Machine.{Ty, TyMid, TyOf};
-ghost use Rattle.source_grammar.specs.Next.{mid_form};
+ghost use Rattle.source_grammar.specs.Inside.Joined.{IsToken, mid_type};
+ghost use Rattle.source_grammar.specs.Inside.Machine.{Ty, TyMid, TyOf};
+ghost use Rattle.source_grammar.specs.Inside.Next.{mid_form};
 ghost use Rattle.source_grammar.specs.RawRead.{read_ty, read_written};
-ghost use Rattle.source_grammar.specs.Stops.{Moves};
+ghost use Rattle.source_grammar.specs.Inside.Stops.{Moves};
 
 use crate::choice::{Mid, TyForm};
 use crate::cursor::{Stop, Tokens};
@@ -34,7 +34,7 @@ pub fn written(alloc: Global, tokens: &mut Tokens) -> Result<Written, Stop>
 }
 
 /// A type of one word.
-#[tactic(auto, using(crate::proofs::Forms::forms), unfolding(crate::specs::Machine::halt))]
+#[tactic(auto, using(crate::proofs::Forms::forms), unfolding(crate::specs::Inside::Machine::halt))]
 fn simple(tokens: &mut Tokens) -> Result<Written, Stop>
     ensures ok { IfOk result (λ t. IsWritten tokens.old tokens.new (read_written t)) }
     ensures moves { Moves (TyOf a_ty.Simple) tokens.old tokens.new result }

@@ -5,7 +5,7 @@ use Rattle.priml_syntax.specs.declared.expr.Op.TheVariants.{Add, Sub, Mul, Rem, 
 use Rattle.source_tokens.specs.declared.token.Token.{Token}
 use Rattle.source_grammar.specs.declared.raw.Name.{Name}
 use Rattle.source_grammar.specs.RawTree.{int, WrittenType, var, number, binary, RawCode, block, bind, ret_tail, if_tail, spawn, sync, call, output, RawRoutine, RawProcedure, priority, order, procedure, RawTree}
-use Rattle.source_grammar.specs.Grammar.{IsPriorities, IsHead, IsProcedure, IsMain, IsProgram, one, some, is_int, is_written, is_add, is_sub, is_mul, is_rem, is_less, is_var, is_number, is_binary, is_block, is_give, is_branch, is_bind, is_spawn, is_sync, is_call, is_output, is_parameter, is_routine, is_procedure, no_more, is_priority, is_order, is_declared, is_main, is_program}
+use Rattle.source_grammar.specs.Grammar.{IsPriorities, IsHead, IsProcedure, IsMain, IsProgram, one, some, is_int, is_written, is_add, is_sub, is_mul, is_rem, is_less, is_var, is_number, is_binary, is_block, is_ret_tail, is_if_tail, is_bind, is_spawn, is_sync, is_call, is_output, is_parameter, is_routine, is_procedure, no_more, is_priority, is_order, is_declared, is_main, is_program}
 use Rattle.source_maker.proofs.Pieces.{tokens}
 use Rattle.source_maker.proofs.Sample.{leaf_pieces, chain_pieces}
 use Rattle.source_maker.proofs.Lexed.{main_tokens, whole_tokens}
@@ -68,23 +68,23 @@ leaf_derived rest =
     (is_routine 41 60 66 (name 63 0) (is_written (is_int 68))
     (is_block 72 111
     (is_bind (name 76 4) 78 81 95 (is_output 81 (is_binary 88 91 94 _ Mul (is_var (name 89 3)) is_mul (is_var (name 93 3))))
-    (is_give 99 (is_binary 103 106 109 _ Rem (is_var (name 104 3)) is_rem (is_number 108 7))))))
+    (is_ret_tail 99 (is_binary 103 106 109 _ Rem (is_var (name 104 3)) is_rem (is_number 108 7))))))
 
 chain_derived : (rest : List Token) → IsProcedure (tokens 0 112 chain_pieces rest) rest chain
 chain_derived rest =
     is_procedure 113 123 131 (name 118 5) (IsHead.absent 123) (some (one (is_parameter (name 124 3) 126 (is_written (is_int 128)))))
     (is_routine 113 133 139 (name 136 0) (is_written (is_int 141))
     (is_block 145 295
-    (is_branch 149 172 (is_binary 152 155 158 _ Less (is_var (name 153 3)) is_less (is_number 157 1))
-    (is_block 160 168 (is_give 162 (is_number 166 0)))
+    (is_if_tail 149 172 (is_binary 152 155 158 _ Less (is_var (name 153 3)) is_less (is_number 157 1))
+    (is_block 160 168 (is_ret_tail 162 (is_number 166 0)))
     (is_block 177 293
     (is_bind (name 183 6) 185 188 226 (is_spawn 188 193 196 (name 194 0)
     (is_block 198 225
     (is_bind (name 200 7) 202 205 217 (is_call 205 214 216 (name 210 2) (IsPriorities.absent 214) (some (one (is_var (name 215 3)))))
-    (is_give 219 (is_var (name 223 7))))))
+    (is_ret_tail 219 (is_var (name 223 7))))))
     (is_bind (name 232 8) 234 237 256 (is_call 237 247 255 (name 242 5) (IsPriorities.absent 247) (some (one (is_binary 248 251 254 _ Sub (is_var (name 249 3)) is_sub (is_number 253 1)))))
     (is_bind (name 262 9) 264 267 273 (is_sync 267 (name 272 6))
-    (is_give 279 (is_binary 283 286 289 _ Add (is_var (name 284 8)) is_add (is_var (name 288 9)))))))))))
+    (is_ret_tail 279 (is_binary 283 286 289 _ Add (is_var (name 284 8)) is_add (is_var (name 288 9)))))))))))
 
 main_derived : (n : ℕ) → IsMain (main_tokens n) [] (main n)
 main_derived n =
@@ -95,9 +95,9 @@ main_derived n =
     (is_bind (name 318 6) 320 323 (digits + 361) (is_spawn 323 328 331 (name 329 0)
     (is_block 333 (digits + 360)
     (is_bind (name 335 7) 337 340 (digits + 352) (is_call 340 350 (digits + 351) (name 345 5) (IsPriorities.absent 350) (some (one (is_number 351 n))))
-    (is_give (digits + 354) (is_var (name (digits + 358) 7))))))
+    (is_ret_tail (digits + 354) (is_var (name (digits + 358) 7))))))
     (is_bind (name (digits + 365) 4) (digits + 367) (digits + 370) (2 * digits + 377) (is_output (digits + 370) (is_number (digits + 377) n))
-    (is_give (2 * digits + 381) (is_number (2 * digits + 385) n))))))
+    (is_ret_tail (2 * digits + 381) (is_number (2 * digits + 385) n))))))
 
 pub made_derived : (n : ℕ) → IsProgram (whole_tokens n) (made_raw n)
 made_derived n =

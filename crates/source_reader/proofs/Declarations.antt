@@ -13,8 +13,8 @@ use Rattle.source_reader.specs.declared.faults.ResolveStop.{ResolveStop}
 use Rattle.source_reader.specs.Names.{priorities, procedures, Env, env_of}
 use Rattle.source_reader.specs.Faults.{again_faults, room_faults, prio_faults, procedure_faults, decl_faults, decls_faults, main_faults, faults, declared_faults}
 use Rattle.source_reader.specs.Resolved.{pairs_meant, procs_meant, main_meant, resolved}
-use Rattle.source_reader.specs.Fits.{DeclsFit, BodiesFit}
-use Rattle.source_reader.specs.Gives.{First}
+use Rattle.source_reader.specs.Inside.Fits.{DeclsFit, BodiesFit}
+use Rattle.source_reader.specs.Inside.Gives.{First}
 use Rattle.source_reader.proofs.Walk.{next_of}
 use Rattle.source_reader.proofs.Tables.{names_push, called_push, pairs_push, procs_push, pairs_long}
 

@@ -15,8 +15,8 @@ use Rattle.source_tokens.specs.Laws.{IsNameBelow, AreNamesBelow}
 use Rattle.source_tokens.proofs.Lawful.{lexed_lawful}
 use Rattle.source_grammar.specs.declared.raw.Name.{Name}
 use Rattle.source_grammar.specs.RawTree.{RawType, RawTerm, RawCode, RawBody, RawAct, WrittenType, Parameter, RawProcedure, Declaration, RawRoutine, RawTree}
-use Rattle.source_grammar.specs.Grammar.{IsSeparated, IsListed, IsName, IsType, IsWritten, IsExpr, IsPriorities, IsBlock, IsBody, IsAction, IsGiven, IsParameter, IsHead, IsRoutine, IsProcedure, IsDecls, IsMain, IsProgram}
-use Rattle.source_reader.specs.Fits.{TermFits, TermsFit, CodeFits, BodyFits, ActFits, DeclsFit, BodiesFit, Fits}
+use Rattle.source_grammar.specs.Grammar.{IsSeparated, IsListed, IsName, IsType, IsWritten, IsExpr, IsPriorities, IsBlock, IsBody, IsAction, IsConstraint, IsParameter, IsHead, IsRoutine, IsProcedure, IsDecls, IsMain, IsProgram}
+use Rattle.source_reader.specs.Inside.Fits.{TermFits, TermsFit, CodeFits, BodyFits, ActFits, DeclsFit, BodiesFit, Fits}
 
 -- a name is one of so many, and a number is below two to the 63
 abbrev KindFits : ℕ → Kind → Type 0
@@ -124,9 +124,9 @@ module _ (n : ℕ) where
   expr_fits (IsExpr.is_number at v) h = (h.0, h.1)
   expr_fits (IsExpr.is_true at) h = (tt, h.1)
   expr_fits (IsExpr.is_false at) h = (tt, h.1)
-  expr_fits (IsExpr.is_nothing at close) h = (tt, h.1.1)
+  expr_fits (IsExpr.is_unit_term at close) h = (tt, h.1.1)
   expr_fits (IsExpr.is_inside at close x) h = let a = expr_fits x h.1 in (a.0, a.1.1)
-  expr_fits (IsExpr.is_both at comma close x y) h = let a = expr_fits x h.1 in let b = expr_fits y a.1.1 in ((a.0, b.0), b.1.1)
+  expr_fits (IsExpr.is_pair_term at comma close x y) h = let a = expr_fits x h.1 in let b = expr_fits y a.1.1 in ((a.0, b.0), b.1.1)
   expr_fits (IsExpr.is_binary at mid close kind op x o y) h = let a = expr_fits x h.1 in let b = expr_fits y a.1.1 in ((a.0, b.0), b.1.1)
   expr_fits (IsExpr.is_first at a close x) h = let p = expr_fits x h.1.1 in (p.0, p.1.1)
   expr_fits (IsExpr.is_second at a close x) h = let p = expr_fits x h.1.1 in (p.0, p.1.1)
@@ -151,9 +151,9 @@ module _ (n : ℕ) where
     block_fits (IsBlock.is_block at close b) h = let x = body_fits b h.1 in (x.0, x.1.1)
 
     body_fits : {ts rest : List Token} {b : RawBody} → IsBody ts rest b → TokensFit n ts → BodyFits b × TokensFit n rest
-    body_fits (IsBody.is_give at e) h = expr_fits e h.1
-    body_fits (IsBody.is_branch at other e x y) h = let p = expr_fits e h.1 in let a = block_fits x p.1 in let b = block_fits y a.1.1 in ((p.0, a.0, b.0), b.1)
-    body_fits (IsBody.is_split at i j m o e x y) h = let p = expr_fits e h.1 in let a = block_fits x p.1.1.1 in let b = block_fits y a.1.1.1 in ((p.0, a.0, b.0), b.1)
+    body_fits (IsBody.is_ret_tail at e) h = expr_fits e h.1
+    body_fits (IsBody.is_if_tail at other e x y) h = let p = expr_fits e h.1 in let a = block_fits x p.1 in let b = block_fits y a.1.1 in ((p.0, a.0, b.0), b.1)
+    body_fits (IsBody.is_case_tail at i j m o e x y) h = let p = expr_fits e h.1 in let a = block_fits x p.1.1.1 in let b = block_fits y a.1.1.1 in ((p.0, a.0, b.0), b.1)
     body_fits (IsBody.is_bind m arrow at end a b) h = let x = action_fits a h.1.1 in let y = body_fits b x.1.1 in ((x.0, y.0), y.1)
 
     action_fits : {ts rest : List Token} {at : ℕ} {a : RawAct} → IsAction ts rest at a → TokensFit n ts → ActFits a × TokensFit n rest
@@ -161,12 +161,12 @@ module _ (n : ℕ) where
     action_fits (IsAction.is_spawn at from close p b) h = block_fits b h.1.1.1.1
     action_fits (IsAction.is_sync at m) h = (tt, h.1.1)
     action_fits (IsAction.is_call at from close f ps es) h = let x = listed_fit es (behind_priorities ps h.1.1).1 in (x.0, x.1.1)
-    action_fits (IsAction.is_run at b) h = block_fits b h.1
+    action_fits (IsAction.is_do_block at b) h = block_fits b h.1
     action_fits (IsAction.is_input at) h = (tt, h.1)
     action_fits (IsAction.is_output at e) h = expr_fits e h.1
 
-  behind_given : (ts rest : List Token) (x : Name × Name) → IsGiven ts rest x → TokensFit n ts → TokensFit n rest
-  behind_given ts rest x (IsGiven.is_given p q at) h = h.1.1.1
+  behind_given : (ts rest : List Token) (x : Name × Name) → IsConstraint ts rest x → TokensFit n ts → TokensFit n rest
+  behind_given ts rest x (IsConstraint.is_constraint p q at) h = h.1.1.1
 
   behind_parameter : (ts rest : List Token) (x : Parameter) → IsParameter ts rest x → TokensFit n ts → TokensFit n rest
   behind_parameter ts rest x (IsParameter.is_parameter m colon t) h = behind_written t h.1.1
@@ -174,7 +174,7 @@ module _ (n : ℕ) where
   behind_head : {ts rest : List Token} {ns : List Name} {gs : List (Name × Name)} → IsHead ts rest ns gs → TokensFit n ts → TokensFit n rest
   behind_head (IsHead.absent at) h = h
   behind_head (IsHead.free at close ns) h = (behind_listed IsName behind_name ns h.1).1
-  behind_head (IsHead.bound at mid close ns gs) h = (behind_separated IsGiven behind_given gs (behind_listed IsName behind_name ns h.1).1).1
+  behind_head (IsHead.bound at mid close ns gs) h = (behind_separated IsConstraint behind_given gs (behind_listed IsName behind_name ns h.1).1).1
 
   routine_fits : {ts rest : List Token} {at : ℕ} {r : RawRoutine} → IsRoutine ts rest at r → TokensFit n ts → CodeFits r.body × TokensFit n rest
   routine_fits (IsRoutine.is_routine at by colon own t b) h = block_fits b (behind_written t h.1.1.1)

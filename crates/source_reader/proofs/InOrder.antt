@@ -6,7 +6,7 @@ use Rattle.source_tokens.specs.declared.token.Sign.TheVariants as s'
 use Rattle.source_tokens.specs.Laws.{AreInOrder}
 use Rattle.source_grammar.specs.declared.raw.Name.{Name}
 use Rattle.source_grammar.specs.RawTree.{RawType, RawTerm, RawCode, RawBody, RawAct, WrittenType, Parameter, RawRoutine, RawProcedure, Declaration, priority, order, procedure, RawTree}
-use Rattle.source_grammar.specs.Grammar.{sign, IsSeparated, IsListed, IsName, IsType, IsWritten, IsExpr, IsPriorities, IsBlock, IsBody, IsAction, IsGiven, IsParameter, IsHead, IsRoutine, IsProcedure, IsDecls, IsMain, IsProgram}
+use Rattle.source_grammar.specs.Grammar.{sign, IsSeparated, IsListed, IsName, IsType, IsWritten, IsExpr, IsPriorities, IsBlock, IsBody, IsAction, IsConstraint, IsParameter, IsHead, IsRoutine, IsProcedure, IsDecls, IsMain, IsProgram}
 use Rattle.source_reader.specs.declared.faults.Fault.{Fault}
 use Rattle.source_reader.specs.declared.faults.Fault.TheVariants.{UnknownName, TooMany}
 use Rattle.source_reader.specs.declared.faults.What.TheVariants as what
@@ -65,9 +65,9 @@ expr_runs env scope (IsExpr.is_var n) o = here o (one_at (is_among n.id scope) (
 expr_runs env scope (IsExpr.is_number at n) o = after o (λ p. none_here p)
 expr_runs env scope (IsExpr.is_true at) o = after o (λ p. none_here p)
 expr_runs env scope (IsExpr.is_false at) o = after o (λ p. none_here p)
-expr_runs env scope (IsExpr.is_nothing at close) o = after o (λ p. after p (λ q. none_here q))
+expr_runs env scope (IsExpr.is_unit_term at close) o = after o (λ p. after p (λ q. none_here q))
 expr_runs env scope (IsExpr.is_inside at close x) o = ending (after o (λ p. expr_runs env scope x p))
-expr_runs env scope (IsExpr.is_both at comma close x y) o = ending (after o (λ p. then_runs (ending (expr_runs env scope x p)) (λ m q. expr_runs env scope y q)))
+expr_runs env scope (IsExpr.is_pair_term at comma close x y) o = ending (after o (λ p. then_runs (ending (expr_runs env scope x p)) (λ m q. expr_runs env scope y q)))
 expr_runs env scope (IsExpr.is_binary at mid close kind op x is y) o = ending (after o (λ p. then_runs (ending (expr_runs env scope x p)) (λ m q. expr_runs env scope y q)))
 expr_runs env scope (IsExpr.is_first at a close x) o = ending (after o (λ p. after p (λ q. expr_runs env scope x q)))
 expr_runs env scope (IsExpr.is_second at a close x) o = ending (after o (λ p. after p (λ q. expr_runs env scope x q)))
@@ -120,10 +120,10 @@ mutual
   block_runs (IsBlock.is_block at close b) env scope o = ending (after o (λ p. body_runs b env scope p))
 
   body_runs : {ts rest : List Token} {b : RawBody} → IsBody ts rest b → (env : Env) (scope : List ℕ) {total from : ℕ} → Rises total from ts → Runs total from rest (body_faults b env scope)
-  body_runs (IsBody.is_give at e) env scope o = after o (λ p. expr_runs env scope e p)
-  body_runs (IsBody.is_branch at other e x y) env scope o =
+  body_runs (IsBody.is_ret_tail at e) env scope o = after o (λ p. expr_runs env scope e p)
+  body_runs (IsBody.is_if_tail at other e x y) env scope o =
       after o (λ p. then_runs (expr_runs env scope e p) (λ i q. then_runs (ending (block_runs x env scope q)) (λ j r. block_runs y env scope r)))
-  body_runs (IsBody.is_split at b c m n e x y) env scope o =
+  body_runs (IsBody.is_case_tail at b c m n e x y) env scope o =
       after o (λ p. then_runs (expr_runs env scope e p) (λ i q. then_runs
       (after q (λ r. then_runs (here r (room_at m.at (length scope) 32 what.Scope)) (λ k t. block_runs x env (scope ++ m.id ∷ []) t)))
       (λ j r. after r (λ t. then_runs (here t (room_at n.at (length scope) 32 what.Scope)) (λ k u. block_runs y env (scope ++ n.id ∷ []) u)))))
@@ -136,18 +136,18 @@ mutual
   action_runs (IsAction.is_sync at h) env scope o = after o (λ p. here p (one_at (is_among h.id scope) (UnknownName h.at)))
   action_runs (IsAction.is_call at i close f ps es) env scope o =
       after o (λ p. then_runs (here p (one_at (is_some (env.procs f.id)) (UnknownName f.at))) (λ j q. then_runs (ending (called_run env ps q)) (λ k r. ending (terms_run env scope es r))))
-  action_runs (IsAction.is_run at b) env scope o = after o (λ p. block_runs b env scope p)
+  action_runs (IsAction.is_do_block at b) env scope o = after o (λ p. block_runs b env scope p)
   action_runs (IsAction.is_input at) env scope o = after o (λ p. none_here p)
   action_runs (IsAction.is_output at e) env scope o = after o (λ p. expr_runs env scope e p)
 
 -- Procedures.
-given_runs : (env : Env) (before : ℕ) {ts rest : List Token} {g : Name × Name} → IsGiven ts rest g → {total from : ℕ} → Rises total from ts
+given_runs : (env : Env) (before : ℕ) {ts rest : List Token} {g : Name × Name} → IsConstraint ts rest g → {total from : ℕ} → Rises total from ts
     → Runs total from rest (prio_faults env g.0 ++ (room_faults g.0.at before 16 what.Constraints ++ prio_faults env g.1))
-given_runs env before (IsGiven.is_given m n at {rest = rest}) {total} {from} o =
+given_runs env before (IsConstraint.is_constraint m n at {rest = rest}) {total} {from} o =
     subst (Runs total from rest) (append_assoc (prio_faults env m) (room_faults m.at before 16 what.Constraints) (prio_faults env n))
     (then_runs (ending (here o (prio_room_at env m before 16 what.Constraints))) (λ i p. here p (prio_at env n)))
 
-givens_run : (env : Env) {ts rest : List Token} {gs : List (Name × Name)} → IsSeparated IsGiven ts rest gs → {total from : ℕ} → Rises total from ts → Runs total from rest (givens_faults env gs 0)
+givens_run : (env : Env) {ts rest : List Token} {gs : List (Name × Name)} → IsSeparated IsConstraint ts rest gs → {total from : ℕ} → Rises total from ts → Runs total from rest (givens_faults env gs 0)
 givens_run env h o =
     separated_runs (λ (s : ℕ) (g : Name × Name). prio_faults env g.0 ++ (room_faults g.0.at s 16 what.Constraints ++ prio_faults env g.1)) (λ (s : ℕ) (g : Name × Name). s + 1) (λ (s : ℕ) (gs : List (Name × Name)). givens_faults env gs s) (record { empty = λ s. refl; cons = λ s x xs. refl })
     (λ ts rest x d s total from p. given_runs env s d p) h 0 o

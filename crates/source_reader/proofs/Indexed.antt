@@ -3,7 +3,7 @@ use Rattle.std.proofs.Common.{◌≡◌, ◌==◌, ℕ, ◌<◌, Bool, true, fal
 use Rattle.std.proofs.lemmas.Bool.{eqb-true, eq-eqb}
 use Rattle.std.proofs.lemmas.List.{get_or-set_same, get_or-set_other}
 use Rattle.source_reader.specs.Names.{lookup}
-use Rattle.source_reader.specs.Narrow.{narrow}
+use Rattle.source_reader.specs.Inside.Narrow.{narrow}
 use Rattle.source_reader.proofs.Lookup.{lookup_last}
 
 indexed_by : (t : List (Option ℕ)) (xs : List ℕ) (x id : ℕ) → ((id : ℕ) → get_or t id None ≡ narrow (lookup id xs)) → x < length t → (place : ℕ) → Some place ≡ narrow (Some (length xs)) → (b : Bool) → (x == id) ≡ b

@@ -9,7 +9,7 @@ use Rattle.source_reader.specs.declared.faults.What.{What}
 use Rattle.source_reader.specs.declared.faults.ResolveStop.{ResolveStop}
 use Rattle.source_reader.specs.declared.faults.ResolveStop.TheVariants as stop
 use Rattle.source_reader.specs.Faults.{room_faults, unless}
-use Rattle.source_reader.specs.Gives.{First, IsMade, Finds}
+use Rattle.source_reader.specs.Inside.Gives.{First, IsMade, Finds}
 
 -- the first fault of a part is the first of the whole, where none stands before it
 pub gives_first : (fs gs hs : List Fault) (e : ResolveStop) → fs ≡ gs ++ hs → First gs e → First fs e

@@ -7,7 +7,7 @@ use Rattle.source_reader.specs.declared.faults.Fault.TheVariants.{UnknownName, T
 use Rattle.source_reader.specs.declared.faults.What.TheVariants.{Pairs, Procedures, Constraints, Parameters, TypeNodes}
 use Rattle.source_reader.specs.Names.{lookup, priorities, procedures, pairs_in, param_ids, Env, prio_named, env_of, with_vars}
 use Rattle.source_reader.specs.Faults.{unless, prio_faults, prios_faults, proc_faults, room_faults, again_faults, raw_nodes, type_faults, written_faults, term_faults, terms_faults, scope_faults, code_faults, body_faults, act_faults, vars_faults, givens_faults, params_faults, procedure_faults, decl_faults, decls_faults, main_faults}
-use Rattle.source_reader.specs.Narrow.{narrow, narrowed}
+use Rattle.source_reader.specs.Inside.Narrow.{narrow, narrowed}
 use Rattle.source_reader.proofs.Lookup.{lookup_within}
 use Rattle.source_reader.proofs.Tables.{Few}
 

@@ -21,7 +21,7 @@ use Rattle.source_reader.specs.declared.reader.SourceFault.TheVariants.{BadByte,
 use Rattle.source_reader.specs.Faults.{faults}
 use Rattle.source_reader.specs.Resolved.{resolved}
 use Rattle.source_reader.specs.Stands.{Stands, IsFirst, as_source, IsFaultOf, bad_byte, bad_number, too_deep, unexpected, cut_off, of_names, IsRefused}
-use Rattle.source_reader.specs.Written.{stop_fault}
+use Rattle.source_reader.specs.Inside.Written.{stop_fault}
 use Rattle.source_reader.proofs.Ordered.{one_first}
 
 -- a front of tokens that begin some program begins one

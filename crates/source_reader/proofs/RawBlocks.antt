@@ -7,7 +7,7 @@ use Rattle.source_grammar.specs.declared.raw.RawBind.{RawBind}
 use Rattle.source_grammar.specs.declared.raw.RawBlock.{RawBlock, RawBlock', out-RawBlock, Row_of-RawBind, end_of-RawBind, more_of-RawBind, items-the_row-RawBind, items_shown-the_row-RawBind-0}
 use Rattle.source_grammar.specs.RawTree.{RawBody, block, bind}
 use Rattle.source_grammar.specs.RawRead.{read_action, read_block, read_binds, read_tail}
-use Rattle.source_reader.specs.Bodies.{raw_body_of}
+use Rattle.source_reader.specs.Inside.Bodies.{raw_body_of}
 
 binds_are : (n : Count) (row : Row_of-RawBind n) (body : RawBody) → read_binds row body ≡ raw_body_of (items-the_row-RawBind n row) body
 binds_are n end_of-RawBind body = refl

@@ -19,7 +19,7 @@ use Rattle.source_reader.specs.Faults.{faults}
 use Rattle.source_reader.specs.Order.{Ascends}
 use Rattle.source_reader.specs.Resolved.{resolved}
 use Rattle.source_reader.specs.Stands.{Stands, IsFirst, IsFaultOf, bad_byte, bad_number, too_deep, unexpected, cut_off, of_names, IsRefused}
-use Rattle.source_reader.specs.Written.{IsWrittenAs, IsFirstOf, stop_fault}
+use Rattle.source_reader.specs.Inside.Written.{IsWrittenAs, IsFirstOf, stop_fault}
 use Rattle.source_reader.proofs.Routines.{resolved_scoped}
 
 -- a refusal is a fault of a text that stands for no program

@@ -17,8 +17,8 @@ use Rattle.source_reader.specs.declared.faults.Fault.{Fault}
 use Rattle.source_reader.specs.declared.faults.ResolveStop.{ResolveStop}
 use Rattle.source_reader.specs.Names.{Env}
 use Rattle.source_reader.specs.Faults.{body_faults, code_faults}
-use Rattle.source_reader.specs.Gives.{First}
-use Rattle.source_reader.specs.Bodies.{raw_body_of}
+use Rattle.source_reader.specs.Inside.Gives.{First}
+use Rattle.source_reader.specs.Inside.Bodies.{raw_body_of}
 use Rattle.source_reader.proofs.RawBlocks.{raw_tail_of, opened}
 
 -- a list from its element at i on

@@ -1,5 +1,6 @@
 -- The faults of a program's names and limits, in the order of its text. Where two stand at one place, the one that counts is the first.
 use Rattle.std.specs.Prelude.{ℕ, ◌+◌, Bool, true, false, not, is_some, nat_lt, nat_le, List, [], ◌∷◌, ◌++◌, length}
+use Rattle.priml_syntax.specs.Limits.{most_priorities, most_pairs, most_procedures, most_nodes, most_in_scope, most_priority_variables, most_constraints, most_parameters}
 use Rattle.source_grammar.specs.declared.raw.Name.{Name}
 use Rattle.source_grammar.specs.RawTree.{RawType, unit, bool, int, pair, sum, thread, WrittenType, RawTerm, var, number, bool_term, unit_term, pair_term, first, second, left, right, binary, negated, RawCode, block, RawBody, bind, ret_tail, if_tail, case_tail, RawAct, ret, spawn, sync, call, do_block, input, output, Parameter, RawProcedure, Declaration, priority, order, procedure, RawRoutine, RawTree}
 use Rattle.source_reader.specs.declared.faults.What.{What}
@@ -54,9 +55,9 @@ type_faults env (pair a b) = type_faults env a ++ type_faults env b
 type_faults env (sum a b) = type_faults env a ++ type_faults env b
 type_faults env (thread p a) = prio_faults env p ++ type_faults env a
 
--- a written type has at most 16 nodes
+-- a written type is not too large
 abbrev pub written_faults : Env → WrittenType → List Fault
-written_faults env w = unless (nat_le (raw_nodes w.ty) 16) (TooMany w.at TypeNodes) ++ type_faults env w.ty
+written_faults env w = unless (nat_le (raw_nodes w.ty) most_nodes) (TooMany w.at TypeNodes) ++ type_faults env w.ty
 
 -- an expression, by the names of the variables in scope, the outermost first
 abbrev pub term_faults : Env → RawTerm → List ℕ → List Fault
@@ -76,9 +77,9 @@ abbrev pub terms_faults : Env → List RawTerm → List ℕ → List Fault
 terms_faults env [] scope = []
 terms_faults env (e ∷ es) scope = term_faults env e scope ++ terms_faults env es scope
 
--- one variable more in scope, of which at most 32 are, hidden ones too
+-- one variable more in scope
 abbrev pub scope_faults : Name → List ℕ → List Fault
-scope_faults n scope = room_faults n.at (length scope) 32 Scope
+scope_faults n scope = room_faults n.at (length scope) most_in_scope Scope
 
 -- blocks, bodies and actions
 abbrev mutual
@@ -107,11 +108,11 @@ abbrev mutual
 -- priority variables, behind these
 abbrev pub vars_faults : List Name → List ℕ → List Fault
 vars_faults [] before = []
-vars_faults (n ∷ ns) before = again_faults n before 8 PrioVars ++ vars_faults ns (before ++ n.id ∷ [])
+vars_faults (n ∷ ns) before = again_faults n before most_priority_variables PrioVars ++ vars_faults ns (before ++ n.id ∷ [])
 
 -- a constraint, behind so many
 abbrev pub given_faults : Env → Name × Name → ℕ → List Fault
-given_faults env g before = prio_faults env g.0 ++ (room_faults g.0.at before 16 Constraints ++ prio_faults env g.1)
+given_faults env g before = prio_faults env g.0 ++ (room_faults g.0.at before most_constraints Constraints ++ prio_faults env g.1)
 
 -- constraints, behind so many
 abbrev pub givens_faults : Env → List (Name × Name) → ℕ → List Fault
@@ -121,7 +122,8 @@ givens_faults env (g ∷ gs) before = given_faults env g before ++ givens_faults
 -- parameters, behind these
 abbrev pub params_faults : Env → List Parameter → List ℕ → List Fault
 params_faults env [] before = []
-params_faults env (p ∷ ps) before = (again_faults p.name before 8 Parameters ++ written_faults env p.ty) ++ params_faults env ps (before ++ p.name.id ∷ [])
+params_faults env (p ∷ ps) before =
+    (again_faults p.name before most_parameters Parameters ++ written_faults env p.ty) ++ params_faults env ps (before ++ p.name.id ∷ [])
 
 -- a routine behind its parameters: its priority, its result and its body
 abbrev pub routine_faults : Env → RawRoutine → List ℕ → List Fault
@@ -137,9 +139,9 @@ procedure_faults outer f = vars_faults f.vars [] ++ inside_faults (with_vars out
 
 -- a declaration, behind these names of priorities, so many pairs and these names of procedures
 abbrev pub declared_faults : Env → Declaration → List ℕ → ℕ → List ℕ → List Fault
-declared_faults env (priority n) names pairs called = again_faults n names 16 Priorities
-declared_faults env (order at m n) names pairs called = room_faults at pairs 256 Pairs ++ (prio_faults env m ++ prio_faults env n)
-declared_faults env (procedure f) names pairs called = again_faults f.name called 256 Procedures ++ procedure_faults env f
+declared_faults env (priority n) names pairs called = again_faults n names most_priorities Priorities
+declared_faults env (order at m n) names pairs called = room_faults at pairs most_pairs Pairs ++ (prio_faults env m ++ prio_faults env n)
+declared_faults env (procedure f) names pairs called = again_faults f.name called most_procedures Procedures ++ procedure_faults env f
 
 -- a declaration, behind those before it
 abbrev pub decl_faults : Env → Declaration → List Declaration → List Fault

@@ -1,12 +1,7 @@
 pub mod Names
 pub mod Faults
 pub mod Resolved
-pub mod Fits
-pub mod Gives
-pub mod Narrow
-pub mod Known
-pub mod Bodies
 pub mod Order
 pub mod Stands
 pub mod Laws
-pub mod Written
+pub mod Inside

@@ -3,30 +3,28 @@
 ghost use Rattle.std.specs.Prelude.{◌≡◌, ◌≤◌, ◌++◌, ◌∷◌, [], length, map, OnOk};
 ghost use Rattle.priml_syntax.specs.Tree as tree;
 ghost use Rattle.priml_syntax.specs.Read.{read_code, read_act, read_tail};
+ghost use Rattle.priml_syntax.specs.Limits.{most_in_scope};
 ghost use Rattle.source_grammar.specs.RawRead.{read_block, read_action, read_expr};
 ghost use Rattle.source_grammar.specs.RawRead.{read_tail as read_raw_tail};
 ghost use Rattle.source_reader.specs.Names.{number_of};
 ghost use Rattle.source_reader.specs.Faults.{proc_faults, prios_faults, terms_faults, scope_faults, code_faults, body_faults, act_faults};
 ghost use Rattle.source_reader.specs.Resolved.{prios_meant, terms_meant, code_meant, body_meant, act_meant};
-ghost use Rattle.source_reader.specs.Fits.{TermsFit, CodeFits, BodyFits, ActFits};
-ghost use Rattle.source_reader.specs.Gives.{IsMade};
-ghost use Rattle.source_reader.specs.Known.{env_in};
+ghost use Rattle.source_reader.specs.Inside.Fits.{TermsFit, CodeFits, BodyFits, ActFits};
+ghost use Rattle.source_reader.specs.Inside.Gives.{IsMade};
+ghost use Rattle.source_reader.specs.Inside.Known.{env_in};
 
 use crate::faults::{Fault, Made, ResolveStop, What};
 use crate::list::{expressions, priorities};
 use crate::names::{Names, bring};
 use crate::term::{expression, priority, procedure, variable};
-use priml_syntax::{Action, Bind, Block, Tail, TailForm, boxed, push};
+use priml_syntax::{Action, Bind, Block, MOST_IN_SCOPE, Tail, TailForm, boxed, push};
 use source_grammar::raw::{Name, RawAction, RawBind, RawBlock, RawExpr, RawTail, RawTailForm};
 use std::alloc::Global;
-
-/// The most variables that may be in scope.
-const SCOPE: usize = 32;
 
 /// The block, its names resolved in this scope.
 #[cycle(resolve)]
 pub fn block_of(alloc: Global, names: &Names, scope: &mut Vec<usize>, raw: &RawBlock) -> Made<Block>
-    requires room { length scope.old.items ≤ 32 }
+    requires room { length scope.old.items ≤ most_in_scope }
     requires fits { CodeFits (read_block raw.now) }
     ensures gives { IsMade (code_faults (read_block raw.now) (env_in names.now) scope.old.items)
         (code_meant (read_block raw.now) (env_in names.now) scope.old.items) read_code result }
@@ -52,16 +50,16 @@ pub fn block_of(alloc: Global, names: &Names, scope: &mut Vec<usize>, raw: &RawB
 // The bound action; its name is in scope from here on.
 #[cycle(resolve)]
 fn bound(alloc: Global, names: &Names, scope: &mut Vec<usize>, raw: &RawBind) -> Made<Action>
-    requires room { length scope.old.items ≤ 32 }
+    requires room { length scope.old.items ≤ most_in_scope }
     requires fits { ActFits (read_action raw.now.action) }
     ensures gives { IsMade (scope_faults raw.now.name scope.old.items
         ++ act_faults (read_action raw.now.action) (env_in names.now) scope.old.items)
         (act_meant (read_action raw.now.action) (env_in names.now) scope.old.items) read_act result }
     ensures scope { OnOk result (scope.new.items ≡ scope.old.items ++ raw.now.name.id ∷ []) }
-    ensures room { OnOk result (length scope.new.items ≤ 32) }
+    ensures room { OnOk result (length scope.new.items ≤ most_in_scope) }
 {
     let name = raw.name;
-    if scope.len() >= SCOPE {
+    if scope.len() >= MOST_IN_SCOPE {
         return Err(ResolveStop::Fault(Fault::TooMany(name.at, What::Scope)));
     }
     let action = action_of(alloc, names, scope, &raw.action)?;
@@ -72,7 +70,7 @@ fn bound(alloc: Global, names: &Names, scope: &mut Vec<usize>, raw: &RawBind) ->
 // The action, its names resolved in this scope.
 #[cycle(resolve)]
 fn action_of(alloc: Global, names: &Names, scope: &mut Vec<usize>, raw: &RawAction) -> Made<Action>
-    requires room { length scope.old.items ≤ 32 }
+    requires room { length scope.old.items ≤ most_in_scope }
     requires fits { ActFits (read_action raw.now) }
     ensures gives { IsMade (act_faults (read_action raw.now) (env_in names.now) scope.old.items)
         (act_meant (read_action raw.now) (env_in names.now) scope.old.items) read_act result }
@@ -103,7 +101,7 @@ fn action_of(alloc: Global, names: &Names, scope: &mut Vec<usize>, raw: &RawActi
 // The ending of a block, its names resolved in this scope.
 #[cycle(resolve)]
 fn ending(alloc: Global, names: &Names, scope: &mut Vec<usize>, raw: &RawTail) -> Made<Tail>
-    requires room { length scope.old.items ≤ 32 }
+    requires room { length scope.old.items ≤ most_in_scope }
     requires fits { BodyFits (read_raw_tail raw.now.form raw.now.at) }
     ensures gives { IsMade (body_faults (read_raw_tail raw.now.form raw.now.at) (env_in names.now) scope.old.items)
         (body_meant (read_raw_tail raw.now.form raw.now.at) (env_in names.now) scope.old.items) (λ t. read_tail t.form t.at) result }
@@ -122,7 +120,7 @@ fn form_of(
     at: u64,
     raw: &RawTailForm,
 ) -> Made<TailForm>
-    requires room { length scope.old.items ≤ 32 }
+    requires room { length scope.old.items ≤ most_in_scope }
     requires fits { BodyFits (read_raw_tail raw.now at) }
     ensures gives { IsMade (body_faults (read_raw_tail raw.now at) (env_in names.now) scope.old.items)
         (body_meant (read_raw_tail raw.now at) (env_in names.now) scope.old.items) (λ f. read_tail f at) result }
@@ -154,7 +152,7 @@ fn branch(
     inside: &Name,
     raw: &RawBlock,
 ) -> Made<Box<Block>>
-    requires room { length scope.old.items ≤ 32 }
+    requires room { length scope.old.items ≤ most_in_scope }
     requires fits { CodeFits (read_block raw.now) }
     ensures gives { IsMade (scope_faults inside.now scope.old.items
         ++ code_faults (read_block raw.now) (env_in names.now) (scope.old.items ++ inside.now.id ∷ []))
@@ -163,7 +161,7 @@ fn branch(
 {
     let Name { at, id } = *inside;
     let outer = scope.len();
-    if outer >= SCOPE {
+    if outer >= MOST_IN_SCOPE {
         return Err(ResolveStop::Fault(Fault::TooMany(at, What::Scope)));
     }
     bring(scope, id)?;
@@ -179,7 +177,7 @@ fn boxed_block(
     scope: &mut Vec<usize>,
     raw: &RawBlock,
 ) -> Made<Box<Block>>
-    requires room { length scope.old.items ≤ 32 }
+    requires room { length scope.old.items ≤ most_in_scope }
     requires fits { CodeFits (read_block raw.now) }
     ensures gives { IsMade (code_faults (read_block raw.now) (env_in names.now) scope.old.items)
         (code_meant (read_block raw.now) (env_in names.now) scope.old.items) (λ b. read_code b.value) result }
@@ -198,7 +196,7 @@ fn call(
     given: &[Name],
     arguments: &[RawExpr],
 ) -> Made<Action>
-    requires room { length scope.now ≤ 32 }
+    requires room { length scope.now ≤ most_in_scope }
     requires fits { TermsFit (map read_expr arguments.now) }
     ensures { IsMade (proc_faults (env_in names.now) called.now
         ++ (prios_faults (env_in names.now) given.now ++ terms_faults (env_in names.now) (map read_expr arguments.now) scope.now))

@@ -2,29 +2,24 @@
 
 ghost use Rattle.std.specs.Prelude.{◌≡◌, ◌++◌, ◌∷◌, [], length, map, IfOk, OnOk};
 ghost use Rattle.priml_syntax.specs.Read.{read_pair, read_proc};
+ghost use Rattle.priml_syntax.specs.Limits.{most_pairs};
 ghost use Rattle.source_grammar.specs.RawRead.{read_decl};
 ghost use Rattle.source_reader.specs.declared.faults.What.TheVariants as what;
 ghost use Rattle.source_reader.specs.Names.{number_of, priorities, procedures, env_of};
 ghost use Rattle.source_reader.specs.Faults.{room_faults, prio_faults, decls_faults, declared_faults};
 ghost use Rattle.source_reader.specs.Resolved.{pairs_meant, procs_meant};
-ghost use Rattle.source_reader.specs.Fits.{DeclsFit, BodiesFit};
-ghost use Rattle.source_reader.specs.Gives.{IsMade, Finds, plain};
-ghost use Rattle.source_reader.specs.Known.{env_in};
-ghost use Rattle.source_reader.specs.Narrow.{narrowed};
+ghost use Rattle.source_reader.specs.Inside.Fits.{DeclsFit, BodiesFit};
+ghost use Rattle.source_reader.specs.Inside.Gives.{IsMade, Finds, plain};
+ghost use Rattle.source_reader.specs.Inside.Known.{env_in};
+ghost use Rattle.source_reader.specs.Inside.Narrow.{narrowed};
 
 use crate::faults::{Fault, ResolveStop, What};
 use crate::names::{Index, Names};
 use crate::once::once;
 use crate::procedure::procedure_of;
-use priml_syntax::{Proc, push};
+use priml_syntax::{MOST_PAIRS, MOST_PRIORITIES, MOST_PROCEDURES, Proc, push};
 use source_grammar::raw::{Name, RawDecl};
 use std::alloc::{AllocError, Global};
-
-/// The most priorities that may be declared.
-const PRIORITIES: usize = 16;
-
-/// The most pairs that may be declared, and the most procedures.
-const PAIRS: usize = 256;
 
 /// What a program declares so far: the names of its priorities and of its procedures, its pairs, each with the offset of its
 /// word `order`, and its procedures.
@@ -115,10 +110,15 @@ fn declare(
         ++ procs_meant (env_in names.old) (read_decl decl.now ∷ [])) }
 {
     match decl {
-        RawDecl::Priority(name) => once(&mut all.priorities, name, PRIORITIES, What::Priorities),
+        RawDecl::Priority(name) => once(
+            &mut all.priorities,
+            name,
+            MOST_PRIORITIES,
+            What::Priorities,
+        ),
         RawDecl::Order(at, low, high) => pair(names, &mut all.pairs, *at, low, high),
         RawDecl::Proc(f) => {
-            once(&mut all.called, &f.name, PAIRS, What::Procedures)?;
+            once(&mut all.called, &f.name, MOST_PROCEDURES, What::Procedures)?;
             let proc = procedure_of(alloc, names, f)?;
             Ok(push(&mut all.procs, proc)?)
         }
@@ -134,12 +134,12 @@ fn pair(
     high: &Name,
 ) -> Result<(), ResolveStop>
     requires none { names.now.vars.items ≡ [] }
-    ensures faults { Finds (room_faults at (length pairs.old.items) 256 what.Pairs
+    ensures faults { Finds (room_faults at (length pairs.old.items) most_pairs what.Pairs
         ++ (prio_faults (env_in names.now) low.now ++ prio_faults (env_in names.now) high.now)) result }
     ensures pairs { OnOk result (pairs.new.items ≡ pairs.old.items
         ++ (at, number_of ((env_in names.now).prios low.now.id), number_of ((env_in names.now).prios high.now.id)) ∷ []) }
 {
-    if pairs.len() >= PAIRS {
+    if pairs.len() >= MOST_PAIRS {
         return Err(ResolveStop::Fault(Fault::TooMany(at, What::Pairs)));
     }
     let low = known(names, low)?;

@@ -2,12 +2,13 @@
 
 ghost use Rattle.std.specs.Prelude.{◌≤◌, length, map};
 ghost use Rattle.priml_syntax.specs.Read.{read_term};
+ghost use Rattle.priml_syntax.specs.Limits.{most_in_scope};
 ghost use Rattle.source_grammar.specs.RawRead.{read_expr};
 ghost use Rattle.source_reader.specs.Faults.{prios_faults, terms_faults};
 ghost use Rattle.source_reader.specs.Resolved.{prios_meant, terms_meant};
-ghost use Rattle.source_reader.specs.Fits.{TermsFit};
-ghost use Rattle.source_reader.specs.Gives.{IsMade};
-ghost use Rattle.source_reader.specs.Known.{env_in};
+ghost use Rattle.source_reader.specs.Inside.Fits.{TermsFit};
+ghost use Rattle.source_reader.specs.Inside.Gives.{IsMade};
+ghost use Rattle.source_reader.specs.Inside.Known.{env_in};
 
 use crate::faults::ResolveStop;
 use crate::names::Names;
@@ -35,7 +36,7 @@ pub fn expressions(
     scope: &[usize],
     list: &[RawExpr],
 ) -> Result<Vec<Expr>, ResolveStop>
-    requires room { length scope.now ≤ 32 }
+    requires room { length scope.now ≤ most_in_scope }
     requires fits { TermsFit (map read_expr list.now) }
     ensures { IsMade (terms_faults (env_in names.now) (map read_expr list.now) scope.now)
         (terms_meant (env_in names.now) (map read_expr list.now) scope.now) (λ v. map read_term v.items) result }

@@ -1,8 +1,9 @@
 //! What names stand for: by a table for declared ones, and by the scope for variables.
 
 ghost use Rattle.std.specs.Prelude.{◌≡◌, ◌<◌, ◌≤◌, ◌++◌, ◌∷◌, [], ℕ, None, get_or, length, IfOk, OnOk};
+ghost use Rattle.priml_syntax.specs.Limits.{most_priority_variables};
 ghost use Rattle.source_reader.specs.Names.{lookup};
-ghost use Rattle.source_reader.specs.Narrow.{narrow};
+ghost use Rattle.source_reader.specs.Inside.Narrow.{narrow};
 
 use std::alloc::{AllocError, Global};
 
@@ -22,7 +23,7 @@ pub struct Names {
     pub priorities: Index,
     pub vars: Vec<usize>,
     pub procedures: Index,
-    ghost few: { length vars.items ≤ 8 },
+    ghost few: { length vars.items ≤ most_priority_variables },
 }
 
 impl Index {

@@ -2,7 +2,7 @@
 
 ghost use Rattle.std.specs.Prelude.{◌≡◌, ◌≤◌, ◌++◌, ◌∷◌, [], length, OnOk};
 ghost use Rattle.source_reader.specs.Faults.{again_faults};
-ghost use Rattle.source_reader.specs.Gives.{Finds};
+ghost use Rattle.source_reader.specs.Inside.Gives.{Finds};
 
 use crate::faults::{Fault, ResolveStop, What};
 use crate::names::{bring, find};

@@ -2,29 +2,26 @@
 
 ghost use Rattle.std.specs.Prelude.{◌≡◌, ◌≤◌, ◌++◌, ◌∷◌, [], length, map, OnOk, IfOk};
 ghost use Rattle.priml_syntax.specs.Read.{read_type, read_proc};
+ghost use Rattle.priml_syntax.specs.Limits.{most_priority_variables, most_parameters};
 ghost use Rattle.source_grammar.specs.RawRead.{read_param, read_main};
 ghost use Rattle.source_grammar.specs.RawRead.{read_proc as read_raw_proc};
 ghost use Rattle.source_reader.specs.Names.{ids, param_ids};
 ghost use Rattle.source_reader.specs.Faults.{vars_faults, givens_faults, params_faults, procedure_faults, main_faults, given_faults, inside_faults};
 ghost use Rattle.source_reader.specs.Resolved.{given_meant, param_meant, proc_meant, main_meant, inside_meant};
-ghost use Rattle.source_reader.specs.Fits.{CodeFits};
-ghost use Rattle.source_reader.specs.Gives.{IsMade, Finds};
-ghost use Rattle.source_reader.specs.Known.{env_in};
+ghost use Rattle.source_reader.specs.Inside.Fits.{CodeFits};
+ghost use Rattle.source_reader.specs.Inside.Gives.{IsMade, Finds};
+ghost use Rattle.source_reader.specs.Inside.Known.{env_in};
 
 use crate::block::block_of;
 use crate::faults::{Fault, ResolveStop, What};
 use crate::names::Names;
 use crate::once::once;
 use crate::term::{priority, written};
-use priml_syntax::{Prio, Proc, Ty, push};
+use priml_syntax::{
+    MOST_CONSTRAINTS, MOST_PARAMETERS, MOST_PRIORITY_VARIABLES, Prio, Proc, Ty, push,
+};
 use source_grammar::raw::{Name, RawMain, RawParam, RawProc};
 use std::alloc::Global;
-
-/// The most priority variables of a procedure, and the most parameters.
-const EIGHT: usize = 8;
-
-/// The most constraints of a procedure.
-const CONSTRAINTS: usize = 16;
 
 /// The main procedure, its names resolved.
 pub fn main_of(alloc: Global, names: &Names, raw: &RawMain) -> Result<Proc, ResolveStop>
@@ -87,11 +84,11 @@ fn inside(alloc: Global, names: &Names, raw: &RawProc) -> Result<Proc, ResolveSt
 // The names of priority variables, each of which is declared once.
 fn variables(alloc: Global, list: &[Name]) -> Result<Vec<usize>, ResolveStop>
     ensures gives { IsMade (vars_faults list.now []) (ids list.now) (λ v. v.items) result }
-    ensures few { IfOk result (λ v. length v.items ≤ 8) }
+    ensures few { IfOk result (λ v. length v.items ≤ most_priority_variables) }
 {
     let mut vars = Vec::new(alloc);
     for name in list {
-        once(&mut vars, name, EIGHT, What::PrioVars)?;
+        once(&mut vars, name, MOST_PRIORITY_VARIABLES, What::PrioVars)?;
     }
     Ok(vars)
 }
@@ -122,7 +119,7 @@ fn constrain(
     ensures made { OnOk result (all.new.items ≡ all.old.items ++ given_meant (env_in names.now) (low.now, high.now) ∷ []) }
 {
     let first = priority(names, low)?;
-    if all.len() >= CONSTRAINTS {
+    if all.len() >= MOST_CONSTRAINTS {
         return Err(ResolveStop::Fault(Fault::TooMany(low.at, What::Constraints)));
     }
     let second = priority(names, high)?;
@@ -139,12 +136,12 @@ fn parameters(
     ensures faults { Finds (params_faults (env_in names.now) (map read_param list.now) []) result }
     ensures scope { IfOk result (λ p. p.0.items ≡ param_ids (map read_param list.now)) }
     ensures types { IfOk result (λ p. map read_type p.1.items ≡ map (param_meant (env_in names.now)) (map read_param list.now)) }
-    ensures few { IfOk result (λ p. length p.0.items ≤ 8) }
+    ensures few { IfOk result (λ p. length p.0.items ≤ most_parameters) }
 {
     let mut scope = Vec::new(alloc);
     let mut types = Vec::new(alloc);
     for param in list {
-        once(&mut scope, &param.name, EIGHT, What::Parameters)?;
+        once(&mut scope, &param.name, MOST_PARAMETERS, What::Parameters)?;
         let ty = written(alloc, names, &param.ty)?;
         push(&mut types, ty)?;
     }

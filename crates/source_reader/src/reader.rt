@@ -16,8 +16,8 @@ ghost use Rattle.source_grammar.specs.RawRead.{read_raw};
 ghost use Rattle.source_grammar.specs.RawTree.{RawTree};
 ghost use Rattle.source_reader.specs.Faults.{faults};
 ghost use Rattle.source_reader.specs.Resolved.{resolved};
-ghost use Rattle.source_reader.specs.Fits.{Fits};
-ghost use Rattle.source_reader.specs.Written.{IsWrittenAs, IsFirstOf, stop_fault};
+ghost use Rattle.source_reader.specs.Inside.Fits.{Fits};
+ghost use Rattle.source_reader.specs.Inside.Written.{IsWrittenAs, IsFirstOf, stop_fault};
 ghost use Rattle.source_reader.specs.Stands.{Stands, IsFaultOf, IsRefused, as_source};
 
 use crate::faults::{Fault, ResolveStop, What};

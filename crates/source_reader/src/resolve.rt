@@ -8,8 +8,8 @@ ghost use Rattle.source_grammar.specs.RawRead.{read_raw};
 ghost use Rattle.source_tokens.specs.Names.{name_bytes};
 ghost use Rattle.source_reader.specs.Faults.{faults};
 ghost use Rattle.source_reader.specs.Resolved.{resolved};
-ghost use Rattle.source_reader.specs.Fits.{Fits};
-ghost use Rattle.source_reader.specs.Gives.{IsMade};
+ghost use Rattle.source_reader.specs.Inside.Fits.{Fits};
+ghost use Rattle.source_reader.specs.Inside.Gives.{IsMade};
 
 use crate::declared::{declare_all, names_of};
 use crate::faults::ResolveStop;

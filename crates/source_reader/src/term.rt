@@ -2,28 +2,26 @@
 
 ghost use Rattle.std.specs.Prelude.{◌≡◌, ◌≤◌, ◌-◌, ◌^◌, length, min};
 ghost use Rattle.priml_syntax.specs.Read.{read_type, read_term, read_form};
+ghost use Rattle.priml_syntax.specs.Limits.{most_in_scope};
 ghost use Rattle.source_grammar.specs.RawRead.{read_ty, read_written, read_expr};
 ghost use Rattle.source_grammar.specs.RawRead.{read_form as read_raw_form};
 ghost use Rattle.source_reader.specs.Names.{number_of, place_of, prio_of};
 ghost use Rattle.source_reader.specs.Faults.{raw_nodes, prio_faults, proc_faults, var_faults, type_faults, written_faults, term_faults};
 ghost use Rattle.source_reader.specs.Resolved.{type_meant, term_meant};
-ghost use Rattle.source_reader.specs.Fits.{TermFits};
-ghost use Rattle.source_reader.specs.Gives.{IsMade, plain};
-ghost use Rattle.source_reader.specs.Known.{env_in};
+ghost use Rattle.source_reader.specs.Inside.Fits.{TermFits};
+ghost use Rattle.source_reader.specs.Inside.Gives.{IsMade, plain};
+ghost use Rattle.source_reader.specs.Inside.Known.{env_in};
 
 use crate::faults::{Fault, Made, ResolveStop, What};
 use crate::names::{Names, find};
-use priml_syntax::{Expr, ExprForm, Prio, Ty, boxed};
+use priml_syntax::{Expr, ExprForm, MOST_NODES, Prio, Ty, boxed};
 use source_grammar::raw::{Name, RawExpr, RawForm, RawTy, Written};
 use std::alloc::Global;
-
-/// The most nodes of a written type.
-const NODES: u64 = 16;
 
 /// The variable of the name at this offset.
 #[tactic(auto, using(crate::proofs::Lookup::lookup_within))]
 pub fn variable(scope: &[usize], at: u64, id: usize) -> Made<u32>
-    requires { length scope.now ≤ 32 }
+    requires { length scope.now ≤ most_in_scope }
     ensures { IsMade (var_faults at id scope.now) (place_of id scope.now) plain result }
 {
     match find(scope, id) {
@@ -60,7 +58,7 @@ pub fn procedure(names: &Names, name: &Name) -> Made<u32>
 pub fn written(alloc: Global, names: &Names, raw: &Written) -> Made<Ty>
     ensures { IsMade (written_faults (env_in names.now) (read_written raw.now)) (type_meant (env_in names.now) (read_ty raw.now.ty)) read_type result }
 {
-    if nodes(&raw.ty) > NODES {
+    if nodes(&raw.ty) > MOST_NODES {
         return Err(ResolveStop::Fault(Fault::TooMany(raw.at, What::TypeNodes)));
     }
     type_of(alloc, names, &raw.ty)
@@ -115,7 +113,7 @@ fn boxed_type(alloc: Global, names: &Names, raw: &RawTy) -> Made<Box<Ty>>
 /// The expression, its names resolved in this scope.
 #[cycle(terms)]
 pub fn expression(alloc: Global, names: &Names, scope: &[usize], raw: &RawExpr) -> Made<Expr>
-    requires room { length scope.now ≤ 32 }
+    requires room { length scope.now ≤ most_in_scope }
     requires fits { TermFits (read_expr raw.now) }
     ensures { IsMade (term_faults (env_in names.now) (read_expr raw.now) scope.now)
         (term_meant (env_in names.now) (read_expr raw.now) scope.now) read_term result }
@@ -126,7 +124,7 @@ pub fn expression(alloc: Global, names: &Names, scope: &[usize], raw: &RawExpr) 
 
 #[cycle(terms)]
 fn boxed_term(alloc: Global, names: &Names, scope: &[usize], raw: &RawExpr) -> Made<Box<Expr>>
-    requires room { length scope.now ≤ 32 }
+    requires room { length scope.now ≤ most_in_scope }
     requires fits { TermFits (read_expr raw.now) }
     ensures { IsMade (term_faults (env_in names.now) (read_expr raw.now) scope.now)
         (term_meant (env_in names.now) (read_expr raw.now) scope.now) (λ e. read_term e.value) result }
@@ -138,7 +136,7 @@ fn boxed_term(alloc: Global, names: &Names, scope: &[usize], raw: &RawExpr) -> M
 // The form of an expression at this offset.
 #[cycle(terms)]
 fn form_of(alloc: Global, names: &Names, scope: &[usize], at: u64, raw: &RawForm) -> Made<ExprForm>
-    requires room { length scope.now ≤ 32 }
+    requires room { length scope.now ≤ most_in_scope }
     requires fits { TermFits (read_raw_form raw.now at) }
     ensures { IsMade (term_faults (env_in names.now) (read_raw_form raw.now at) scope.now)
         (term_meant (env_in names.now) (read_raw_form raw.now at) scope.now) (λ f. read_form f at) result }

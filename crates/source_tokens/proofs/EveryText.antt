@@ -17,7 +17,7 @@ use Rattle.source_tokens.specs.declared.token.Stop.TheVariants as stop
 use Rattle.source_tokens.specs.Inside.Gaps.{begins}
 use Rattle.source_tokens.specs.Lexemes.{is_word, is_number, is_part, is_digit, begins_word, word_spelling, sign_spelling, IsLongest, BeginsNone}
 use Rattle.source_tokens.specs.Lexes.{IsName, Spells, word, sign, number, old_name, new_name, opens, open_behind, place, Lexes, done, bad_byte, bad_number, too_deep, next}
-use Rattle.source_tokens.specs.Forms.{IsSignAt}
+use Rattle.source_tokens.specs.Inside.Forms.{IsSignAt}
 use Rattle.source_tokens.specs.Laws.{HasTokens}
 use Rattle.source_tokens.proofs.Longest.{byte_begins_none, word_front, word_longest, number_front, number_longest, sign_front, sign_longest}
 use Rattle.source_tokens.proofs.Spelled.{spelled}

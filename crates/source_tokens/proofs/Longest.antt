@@ -7,7 +7,7 @@ use Rattle.std.proofs.lemmas.Bool.{both_ways, and_parts, false≢true, or_left, 
 use Rattle.std.proofs.lemmas.Bool.Decides.{nat_tests}
 use Rattle.source_tokens.specs.declared.token.Sign.{Sign}
 use Rattle.source_tokens.specs.Lexemes.{is_word, is_number, is_digit, begins_word, is_part, sign_spelling, IsLexeme, of_word, of_digits, of_sign, IsLongest, BeginsNone}
-use Rattle.source_tokens.specs.Forms.{IsSignAt}
+use Rattle.source_tokens.specs.Inside.Forms.{IsSignAt}
 use Rattle.source_tokens.proofs.Signs.{sign_no_word, sign_no_number, sign_some, sign_first_word, sign_first_digit, sign_longer, sign_there, sign_taken, sign_stops, Longer}
 
 pub digit_no_word : (b : ℕ) → is_digit b ≡ true → begins_word b ≡ true → ⊥

@@ -6,7 +6,7 @@ use Rattle.std.proofs.lemmas.Bool.{cases_eq}
 use Rattle.source_tokens.specs.declared.token.Sign.{Sign}
 use Rattle.source_tokens.specs.declared.token.Sign.TheVariants as s
 use Rattle.source_tokens.specs.Lexemes.{is_word, is_number, is_digit, begins_word, sign_spelling}
-use Rattle.source_tokens.specs.Forms.{IsSignAt}
+use Rattle.source_tokens.specs.Inside.Forms.{IsSignAt}
 
 pub sign_no_word : (x : Sign) (more : List ℕ) → is_word (sign_spelling x ++ more) ≡ false
 sign_no_word s.Arrow more = refl

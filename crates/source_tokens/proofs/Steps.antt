@@ -12,7 +12,7 @@ use Rattle.source_tokens.specs.declared.form.Form.TheVariants as f
 use Rattle.source_tokens.specs.Lexemes.{Skips, is_number, IsLongest, BeginsNone}
 use Rattle.source_tokens.specs.Inside.Gaps.{begins}
 use Rattle.source_tokens.specs.Lexes.{Spells, opens, open_behind, Lexes, done, bad_byte, bad_number, too_deep, next, IsLexed}
-use Rattle.source_tokens.specs.Forms.{IsForm}
+use Rattle.source_tokens.specs.Inside.Forms.{IsForm}
 use Rattle.source_tokens.specs.Names.{IsTooLarge}
 use Rattle.source_tokens.proofs.Skips.{skips_to}
 

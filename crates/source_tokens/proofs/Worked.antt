@@ -14,7 +14,7 @@ use Rattle.source_tokens.specs.declared.token.Token.{Token}
 use Rattle.source_tokens.specs.declared.token.Stop.TheVariants as stop
 use Rattle.source_tokens.specs.Lexemes.{is_part, is_digit, word_spelling}
 use Rattle.source_tokens.specs.Lexes.{IsName, Lexes, IsLexed, done, bad_byte, bad_number, too_deep, next, word, sign, number, old_name, new_name}
-use Rattle.source_tokens.specs.Forms.{IsSignAt}
+use Rattle.source_tokens.specs.Inside.Forms.{IsSignAt}
 use Rattle.source_tokens.proofs.Skips.{skips_to}
 use Rattle.source_tokens.proofs.Longest.{longest_word, longest_number, longest_sign, byte_begins_none}
 

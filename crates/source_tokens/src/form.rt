@@ -2,7 +2,7 @@
 ghost use Rattle.std.specs.Prelude.{◌≡◌, ◌≤◌, length, take, drop, IfSome, IfNone};
 ghost use Rattle.source_tokens.specs.declared.token.Sign.{Sign};
 ghost use Rattle.source_tokens.specs.Lexemes.{IsLongest, BeginsNone, sign_spelling};
-ghost use Rattle.source_tokens.specs.Forms.{IsSignAt, IsForm};
+ghost use Rattle.source_tokens.specs.Inside.Forms.{IsSignAt, IsForm};
 
 use crate::bytes::{begins_word, digits_len, is_digit, word_len};
 use crate::token::Sign;

@@ -92,7 +92,7 @@ fn push(
 }
 
 impl<'a> Lexer<'a> {
-    ghost use Rattle.source_tokens.specs.Lexer.{Completes, Ends};
+    ghost use Rattle.source_tokens.specs.Inside.Lexer.{Completes, Ends};
 
     // Takes the next token, or answers how the text ends.
     fn advance(&mut self, alloc: Global) -> Result<Option<Stop>, AllocError>

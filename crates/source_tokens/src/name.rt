@@ -1,7 +1,7 @@
 //! The distinct names of a text, and what a lexeme means among them.
 ghost use Rattle.std.specs.Prelude.{◌≡◌, ◌<◌, IsTrue, IfOk, MatchOption, Some, slice_get};
 ghost use Rattle.source_tokens.specs.Lexes.{Spells};
-ghost use Rattle.source_tokens.specs.Forms.{IsForm};
+ghost use Rattle.source_tokens.specs.Inside.Forms.{IsForm};
 ghost use Rattle.source_tokens.specs.Names.{name_bytes, IsNumbered, IsTooLarge};
 
 use crate::bytes::number;

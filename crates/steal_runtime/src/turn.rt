@@ -9,12 +9,12 @@ use crate::advance::advance;
 use crate::parts::Duty;
 use crate::put::put;
 use crate::seat::is_stopped;
-use crate::waiting::{MOST, wait_for};
+use crate::waiting::wait_for;
 use join_board::{Board, BoardSeat};
 use priority_deques::Lanes;
 use std::alloc::AllocError;
 use std::sync::Wait;
-use task_state::Task;
+use task_state::{MOST_STEPS, Task};
 use type_rules::Job;
 
 /// Runs the task until it goes to the lanes, is parked, or has ended. Where the run is stopped it is let go.
@@ -34,7 +34,7 @@ pub(crate) fn turn<R: Wait, L: Lanes>(
     ensures seat { Stays board.now seat.old seat.new }
     ensures lanes { L.job end.new ≡ L.job end.old }
 {
-    if task.steps() > MOST {
+    if task.steps() > MOST_STEPS {
         return put(rt, end, task);
     }
     let mut task = task;

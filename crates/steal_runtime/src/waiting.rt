@@ -1,5 +1,5 @@
 //! A worker's task awaits a thread.
-ghost use Rattle.std.specs.Prelude.{◌≡◌, ◌^◌, IfOk, IfSome, Some, IsSome};
+ghost use Rattle.std.specs.Prelude.{◌≡◌, IfOk, IfSome, Some, IsSome};
 ghost use Rattle.core_steps.specs.Moves.{read_job};
 ghost use Rattle.task_state.specs.Tasks.{awaited_of, read_task};
 ghost use Rattle.join_board.specs.Handles.{about, knows};
@@ -15,10 +15,7 @@ use priority_deques::Lanes;
 use std::alloc::{AllocError, Global};
 use std::sync::Wait;
 use std::thread;
-use task_state::Task;
-
-/// The most steps of a task that is run, 2^59.
-pub(crate) const MOST: u64 = 576460752303423488;
+use task_state::{MOST_STEPS, Task};
 
 // A copy of the path of the thread that the task awaits.
 fn awaited(alloc: Global, task: &Task) -> Result<Path, AllocError>
@@ -47,7 +44,7 @@ pub(crate) fn wait_for<R: Wait, L: Lanes>(
     ensures lanes { L.job end.new ≡ L.job end.old }
     ensures fed { IfOk result (λ o. IfSome o (λ t. CanRun (the_job (about board.now)) (knows seat.new) (read_task t))) }
 {
-    if task.steps() > MOST {
+    if task.steps() > MOST_STEPS {
         put(rt, end, task)?;
         return Ok(None);
     }

@@ -1,5 +1,5 @@
 -- Tasks as plain data, and the states of threads that they stand for.
-use Rattle.std.specs.Prelude.{◌≡◌, ℕ, ◌+◌, List, [], ◌∷◌, length, Bool, true, false, ◌||◌, Option, Some, None, is_some}
+use Rattle.std.specs.Prelude.{◌≡◌, ℕ, ◌+◌, ◌^◌, List, [], ◌∷◌, length, Bool, true, false, ◌||◌, Option, Some, None, is_some}
 use Rattle.std.specs.Option.{option_map}
 use Rattle.priml_syntax.specs.declared.event.Event.{Event}
 use Rattle.priml_syntax.specs.declared.event.Event.TheVariants.{Spawn, End}
@@ -10,6 +10,10 @@ use Rattle.core_steps.specs.Fields.{LocalFields, read_local, state_of}
 use Rattle.core_steps.specs.Locals.{awaited_at, ended_with}
 use Rattle.core_steps.specs.Steps.{Job, State, awaits, outcome_in}
 use Rattle.task_state.specs.declared.task.Task.{Task}
+
+-- the most steps of a thread whose task is run
+abbrev pub most_steps : ℕ
+most_steps = 2 ^ 59
 
 -- the local state, the pending steps, what was fed, the variable whose thread the next step awaits, the path for the next
 -- segment, and whether the outcome was handed out

@@ -3,7 +3,7 @@ ghost use Rattle.std.specs.Prelude.{◌≡◌, ◌<◌, ◌≤◌, ◌^◌, ◌+
 ghost use Rattle.std.specs.Option.{option_map};
 ghost use Rattle.core_steps.specs.Fields.{read_local};
 ghost use Rattle.core_steps.specs.Moves.{read_job};
-ghost use Rattle.task_state.specs.Tasks.{OfJob, awaited_of, begun, has_ended, read_task};
+ghost use Rattle.task_state.specs.Tasks.{OfJob, awaited_of, begun, has_ended, read_task, most_steps};
 ghost use Rattle.task_state.specs.Turns.{AllGoOn, Halts, Turn};
 ghost use Rattle.task_state.specs.Inside.Steps.{Named, Stepped};
 
@@ -12,6 +12,9 @@ use core_steps::Local;
 use std::alloc::{AllocError, Global};
 use type_rules::Job;
 
+/// The most steps of a thread whose task is run, 2^59.
+pub const MOST_STEPS: u64 = 576_460_752_303_423_488;
+
 impl Task {
     /// Makes at most `quantum` steps. It stops after the one that ends the thread or spawns another, and before one that needs the
     /// outcome of another. Where memory is wanting the task stands after its last whole step, and the steps made are pending.
@@ -19,7 +22,7 @@ impl Task {
         requires task { OfJob (read_job job.now) (read_task self.old) }
         requires pending { (read_task self.old).pending ≡ [] }
         requires live { has_ended (read_task self.old) ≡ false }
-        requires room { (read_task self.old).local.steps ≤ 2 ^ 59 }
+        requires room { (read_task self.old).local.steps ≤ most_steps }
         requires quantum { 0 < quantum }
         ensures turn { Turn (read_job job.now) quantum (read_task self.old) (read_task self.new) }
         ensures halt { IfOk result (λ h. Halts (read_job job.now) quantum (read_task self.new) h) }

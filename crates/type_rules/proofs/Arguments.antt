@@ -21,9 +21,9 @@ use Rattle.type_rules.specs.declared.TypeStop.TheVariants.{Fault, OutOfMemory}
 use Rattle.type_rules.specs.Typing.{VarTypes, Context, HasType, HaveTypes, InScope, AllInScope, CallFits, Holds, subst_prio, subst_type}
 use Rattle.priml_syntax.specs.Tree.{Signature}
 use Rattle.type_rules.specs.Nodes.{CallFails, rank}
-use Rattle.type_rules.specs.Faults.{TermFaults, TermsFault}
+use Rattle.type_rules.specs.Inside.Faults.{TermFaults, TermsFault}
 use Rattle.priml_syntax.specs.Read.{read_sig}
-use Rattle.type_rules.specs.Answers.{TermStops, TermsStop, ActStops}
+use Rattle.type_rules.specs.Inside.Answers.{TermStops, TermsStop, ActStops}
 use Rattle.type_rules.proofs.Unique.{same_types}
 
 pub have_push : (G : VarTypes) (es : List Term) (Ts : List Type') (e : Term) (T : Type') → HaveTypes G es Ts → HasType G e T → HaveTypes G (es ++ e ∷ []) (Ts ++ T ∷ [])

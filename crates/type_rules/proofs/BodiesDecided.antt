@@ -11,7 +11,7 @@ use Rattle.type_rules.specs.declared.TypeKind.{TypeKind}
 use Rattle.type_rules.specs.declared.TypeKind.TheVariants.{Arity, Mismatch, NotThread, WrongPriority, Constraint as ConstraintKind, Inversion, Wide}
 use Rattle.type_rules.specs.declared.TypeStop.TheVariants.{Fault}
 use Rattle.type_rules.specs.Typing.{VarTypes, Context, HasType, HaveTypes, CodeHas, BodyHas, ActHas, Holds, subst_prio, subst_type, operand, gives, InScope, AllInScope, CodeInScope, BodyInScope, ActInScope}
-use Rattle.type_rules.specs.Faults.{TermFaults, TermsFault, ActFault, CodeFaults, BodyFaults, PartsFault}
+use Rattle.type_rules.specs.Inside.Faults.{TermFaults, TermsFault, ActFault, CodeFaults, BodyFaults, PartsFault}
 use Rattle.type_rules.proofs.Arguments.{stop_arity, stop_mismatch, stop_wrong, stop_constraint, call_fits}
 use Rattle.type_rules.proofs.TypeForms.{at_most_or_more, same_number_or_not, both_or_either, same_type_or_not, same_types_or_not, pair_or_not, sum_or_not, thread_or_not, left_or_not, right_or_not, all_or_one}
 
@@ -189,33 +189,33 @@ module _ (s : Context) (G : VarTypes) (r : Prio) (at : ℕ) where
         | inr f ↦ inr (f.0, f.1, inr (inr (A.0, A.1, f.2)))
       ]
 
-  branch_decided : (e : Term) (a b : Code) → TermDecided G e → CodeDecided s G r a → CodeDecided s G r b → BodyDecided s G r (if_tail at e a b)
-  branch_decided e a b (inr f) x y = inr (f.0, f.1, inl f.2)
-  branch_decided e a b (inl A) (inr f) y = inr (f.0, f.1, inr (inl (A.0, A.1, f.2)))
-  branch_decided e a b (inl A) (inl B) (inr f) = inr (f.0, f.1, inr (inr (inl (A.0, B.0, A.1, B.1, f.2))))
-  branch_decided e a b (inl A) (inl B) (inl C) =
+  if_decided : (e : Term) (a b : Code) → TermDecided G e → CodeDecided s G r a → CodeDecided s G r b → BodyDecided s G r (if_tail at e a b)
+  if_decided e a b (inr f) x y = inr (f.0, f.1, inl f.2)
+  if_decided e a b (inl A) (inr f) y = inr (f.0, f.1, inr (inl (A.0, A.1, f.2)))
+  if_decided e a b (inl A) (inl B) (inr f) = inr (f.0, f.1, inr (inr (inl (A.0, B.0, A.1, B.1, f.2))))
+  if_decided e a b (inl A) (inl B) (inl C) =
       elim (both_or_either (same_type_or_not A.0 bool) (same_type_or_not B.0 C.0)) [
         | inl h ↦ inl (C.0, (subst (HasType G e) h.0 A.1, subst (CodeHas a s G r) h.1 B.1, C.1))
         | inr none ↦ inr (Mismatch, at, inr (inr (inr ((A.0, B.0, C.0, A.1, B.1, C.1, none, refl), refl))))
       ]
 
-  split_second : (e : Term) (a b : Code) (A B : Type') → HasType G e (sum A B) → (C : Type') → CodeHas a s (G ++ A ∷ []) r C → CodeDecided s (G ++ B ∷ []) r b → BodyDecided s G r (case_tail at e a b)
-  split_second e a b A B h C x (inr f) = inr (f.0, f.1, inr (inr (inr (inl (A, B, C, h, x, f.2)))))
-  split_second e a b A B h C x (inl D) =
+  case_second : (e : Term) (a b : Code) (A B : Type') → HasType G e (sum A B) → (C : Type') → CodeHas a s (G ++ A ∷ []) r C → CodeDecided s (G ++ B ∷ []) r b → BodyDecided s G r (case_tail at e a b)
+  case_second e a b A B h C x (inr f) = inr (f.0, f.1, inr (inr (inr (inl (A, B, C, h, x, f.2)))))
+  case_second e a b A B h C x (inl D) =
       elim (same_type_or_not C D.0) [
         | inl same ↦ inl (D.0, (A, B, h, subst (CodeHas a s (G ++ A ∷ []) r) same x, D.1))
         | inr other ↦ inr (Mismatch, at, inr (inr (inr (inr ((A, B, C, D.0, h, x, D.1, other, refl), refl)))))
       ]
 
-  split_first : (e : Term) (a b : Code) (A B : Type') → HasType G e (sum A B) → CodeDecided s (G ++ A ∷ []) r a → CodeDecided s (G ++ B ∷ []) r b → BodyDecided s G r (case_tail at e a b)
-  split_first e a b A B h (inr f) y = inr (f.0, f.1, inr (inr (inl (A, B, h, f.2))))
-  split_first e a b A B h (inl C) y = split_second e a b A B h C.0 C.1 y
+  case_first : (e : Term) (a b : Code) (A B : Type') → HasType G e (sum A B) → CodeDecided s (G ++ A ∷ []) r a → CodeDecided s (G ++ B ∷ []) r b → BodyDecided s G r (case_tail at e a b)
+  case_first e a b A B h (inr f) y = inr (f.0, f.1, inr (inr (inl (A, B, h, f.2))))
+  case_first e a b A B h (inl C) y = case_second e a b A B h C.0 C.1 y
 
-  split_decided : (e : Term) (a b : Code) → TermDecided G e → ((A : Type') → CodeDecided s (G ++ A ∷ []) r a) → ((B : Type') → CodeDecided s (G ++ B ∷ []) r b) → BodyDecided s G r (case_tail at e a b)
-  split_decided e a b (inr f) x y = inr (f.0, f.1, inl f.2)
-  split_decided e a b (inl A) x y =
+  case_decided : (e : Term) (a b : Code) → TermDecided G e → ((A : Type') → CodeDecided s (G ++ A ∷ []) r a) → ((B : Type') → CodeDecided s (G ++ B ∷ []) r b) → BodyDecided s G r (case_tail at e a b)
+  case_decided e a b (inr f) x y = inr (f.0, f.1, inl f.2)
+  case_decided e a b (inl A) x y =
       elim (sum_or_not A.0) [
-        | inl h ↦ split_first e a b h.0 h.1 (subst (HasType G e) h.2 A.1) (x h.0) (y h.1)
+        | inl h ↦ case_first e a b h.0 h.1 (subst (HasType G e) h.2 A.1) (x h.0) (y h.1)
         | inr none ↦ inr (Mismatch, at, inr (inl (A.0, A.1, none, refl, refl)))
       ]
 
@@ -231,9 +231,9 @@ mutual
   body_decided (bind at a rest) s G r h =
       bound_decided s G r at a rest (act_decided a s G r at h.0) (λ A. body_decided rest s (G ++ A ∷ []) r (subst (BodyInScope rest (length s.procs)) (sym (deeper G A)) h.1))
   body_decided (ret_tail at e) s G r h = term_decided e G h
-  body_decided (if_tail at e a b) s G r h = branch_decided s G r at e a b (term_decided e G h.0) (code_decided a s G r h.1) (code_decided b s G r h.2)
+  body_decided (if_tail at e a b) s G r h = if_decided s G r at e a b (term_decided e G h.0) (code_decided a s G r h.1) (code_decided b s G r h.2)
   body_decided (case_tail at e a b) s G r h =
-      split_decided s G r at e a b (term_decided e G h.0)
+      case_decided s G r at e a b (term_decided e G h.0)
       (λ A. code_decided a s (G ++ A ∷ []) r (subst (CodeInScope a (length s.procs)) (sym (deeper G A)) h.1))
       (λ B. code_decided b s (G ++ B ∷ []) r (subst (CodeInScope b (length s.procs)) (sym (deeper G B)) h.2))
 

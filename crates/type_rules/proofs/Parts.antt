@@ -19,7 +19,7 @@ use Rattle.type_rules.specs.declared.TypeStop.{TypeStop}
 use Rattle.type_rules.specs.declared.TypeStop.TheVariants.{Fault, OutOfMemory}
 use Rattle.type_rules.specs.Typing.{VarTypes, Context, CodeHas}
 use Rattle.type_rules.specs.Nodes.{parameter, code_sites}
-use Rattle.type_rules.specs.Answers.{CodeAnswer}
+use Rattle.type_rules.specs.Inside.Answers.{CodeAnswer}
 use Rattle.type_rules.specs.Typable.{setting_of, RoutineTyped, Part, a_pair, a_site, a_routine, pair_parts, routine_parts, routines_parts, parts, PartTyped, FirstPartFault}
 use Rattle.type_rules.specs.Stops.{PartsStop, IsTypeStop, RoutineAnswer}
 use Rattle.type_rules.proofs.Sites.{code_fault}

@@ -10,7 +10,7 @@ use Rattle.type_rules.specs.declared.TypeKind.TheVariants.{Mismatch, Wide, NotTh
 use Rattle.type_rules.specs.Typing.{VarTypes, Context, HasType, HaveTypes, CodeHas, BodyHas, ActHas}
 use Rattle.priml_syntax.specs.Tree.{Signature}
 use Rattle.type_rules.specs.Nodes.{bound, left_of, right_of, Binders, Extends, Node, a_term, an_act, an_end, a_test, Site, place, place_of_term, site, term_sites, terms_sites, code_sites, body_sites, act_sites, IsTyped, NodeTyped, NodeFails, TermFails, ActFails, CallFails, FirstFault, rank}
-use Rattle.type_rules.specs.Faults.{TermFaults, TermsFault, ActFault, CodeFaults, BodyFaults, PartsFault}
+use Rattle.type_rules.specs.Inside.Faults.{TermFaults, TermsFault, ActFault, CodeFaults, BodyFaults, PartsFault}
 use Rattle.type_rules.proofs.Firsts.{first_left, first_right}
 use Rattle.type_rules.proofs.Unique.{extends-push}
 

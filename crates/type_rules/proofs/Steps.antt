@@ -17,8 +17,8 @@ use Rattle.priml_syntax.proofs.Blocks.{code_is}
 use Rattle.type_rules.specs.declared.TypeStop.{TypeStop}
 use Rattle.type_rules.specs.declared.TypeStop.TheVariants.{Fault, OutOfMemory}
 use Rattle.type_rules.specs.Typing.{VarTypes, Context, HasType, CodeHas, ActHas}
-use Rattle.type_rules.specs.Faults.{CodeFaults}
-use Rattle.type_rules.specs.Answers.{CarriesOn, CodeAnswer, CodeStops, BodyAnswer, BodyStops, ActStops, scope_of}
+use Rattle.type_rules.specs.Inside.Faults.{CodeFaults}
+use Rattle.type_rules.specs.Inside.Answers.{CarriesOn, CodeAnswer, CodeStops, BodyAnswer, BodyStops, ActStops, scope_of}
 
 pub starts : (s : Context) (r : Prio) (G : VarTypes) (b : Body) → CarriesOn s r G b G b
 starts s r G b = record { typed = λ T h. h; faulty = λ k p h. h }

@@ -1,10 +1,7 @@
 pub mod Typing
 pub mod Nodes
-pub mod Faults
-pub mod Answers
-pub mod Helpers
-pub mod Calls
 pub mod Typable
 pub mod Stops
 pub mod Shared
 pub mod Jobs
+pub mod Inside

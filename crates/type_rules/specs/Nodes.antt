@@ -5,6 +5,7 @@ use Rattle.std.proofs.Common.{◌⊎◌}
 use Rattle.priml_syntax.specs.declared.prio.Prio.{Prio}
 use Rattle.priml_syntax.specs.Tree.{Signature, Type', bool, int, pair, sum, thread, Term, var, number, bool_term, unit_term, pair_term, first, second, left, right, binary, negated, Code, block, Body, bind, ret_tail, if_tail, case_tail, Act, ret, spawn, sync, call, do_block, input, output}
 use Rattle.priml_syntax.specs.Size.{type_nodes}
+use Rattle.priml_syntax.specs.Limits.{most_nodes}
 use Rattle.constraint_proof.specs.Entailed.{Constraint}
 use Rattle.type_rules.specs.declared.TypeKind.{TypeKind}
 use Rattle.type_rules.specs.declared.TypeKind.TheVariants.{Cycle, Arity, Mismatch, NotThread, WrongPriority, Constraint as ConstraintKind, Inversion, Wide}
@@ -137,7 +138,7 @@ TermFails G (var at x) k = ⊥
 TermFails G (number at n) k = ⊥
 TermFails G (bool_term at b) k = ⊥
 TermFails G (unit_term at) k = ⊥
-TermFails G (pair_term at a b) k = (A B : Type') × HasType G a A × HasType G b B × (16 < type_nodes (pair A B)) × (k ≡ Wide)
+TermFails G (pair_term at a b) k = (A B : Type') × HasType G a A × HasType G b B × (most_nodes < type_nodes (pair A B)) × (k ≡ Wide)
 TermFails G (first at a) k = (A : Type') × HasType G a A × ((B C : Type') → A ≢ pair B C) × (k ≡ Mismatch)
 TermFails G (second at a) k = (A : Type') × HasType G a A × ((B C : Type') → A ≢ pair B C) × (k ≡ Mismatch)
 TermFails G (left at S a) k = (A : Type') × HasType G a A × ((B : Type') → S ≢ sum A B) × (k ≡ Mismatch)
@@ -164,7 +165,7 @@ SyncFails s r A k = (IsNoThread A × (k ≡ NotThread)) ⊎ ((q : Prio) × (B : 
 -- the kinds of fault of an action whose parts have types
 abbrev pub ActFails : Context → VarTypes → Prio → Act → TypeKind → Type 0
 ActFails s G r (ret e) k = ⊥
-ActFails s G r (spawn q c) k = (A : Type') × CodeHas c s G q A × (16 < type_nodes (thread q A)) × (k ≡ Wide)
+ActFails s G r (spawn q c) k = (A : Type') × CodeHas c s G q A × (most_nodes < type_nodes (thread q A)) × (k ≡ Wide)
 ActFails s G r (sync h) k = (A : Type') × (slice_get G h ≡ Some A) × SyncFails s r A k
 ActFails s G r (call f ps es) k = (sig : Signature) × (slice_get s.procs f ≡ Some sig) × CallFails s G r sig ps es k
 ActFails s G r (do_block c) k = ⊥

@@ -7,6 +7,7 @@ use Rattle.priml_syntax.specs.declared.expr.Op.{Op}
 use Rattle.priml_syntax.specs.declared.expr.Op.TheVariants.{Add, Sub, Mul, Div, Rem, And, Or}
 use Rattle.priml_syntax.specs.Tree.{Signature, Type', unit, bool, int, pair, sum, thread, Term, var, number, bool_term, unit_term, pair_term, first, second, left, right, binary, negated, Code, block, Body, bind, ret_tail, if_tail, case_tail, Act, ret, spawn, sync, call, do_block, input, output}
 use Rattle.priml_syntax.specs.Size.{type_nodes}
+use Rattle.priml_syntax.specs.Limits.{most_nodes}
 use Rattle.priority_order.specs.Order.{Pair}
 use Rattle.constraint_proof.specs.Entailed.{Constraint, Entailed}
 
@@ -35,7 +36,7 @@ HasType G (var at x) T = slice_get G x ≡ Some T
 HasType G (number at n) T = T ≡ int
 HasType G (bool_term at b) T = T ≡ bool
 HasType G (unit_term at) T = T ≡ unit
-HasType G (pair_term at a b) T = (A B : Type') × HasType G a A × HasType G b B × (T ≡ pair A B) × (type_nodes (pair A B) ≤ 16)
+HasType G (pair_term at a b) T = (A B : Type') × HasType G a A × HasType G b B × (T ≡ pair A B) × (type_nodes (pair A B) ≤ most_nodes)
 HasType G (first at a) T = (B : Type') × HasType G a (pair T B)
 HasType G (second at a) T = (A : Type') × HasType G a (pair A T)
 HasType G (left at S a) T = (A B : Type') × (S ≡ sum A B) × HasType G a A × (T ≡ S)
@@ -95,7 +96,7 @@ abbrev mutual
 
   pub ActHas : Act → Context → VarTypes → Prio → Type' → Type 0
   ActHas (ret e) s G r T = HasType G e T
-  ActHas (spawn q c) s G r T = (A : Type') × CodeHas c s G q A × (T ≡ thread q A) × (type_nodes T ≤ 16)
+  ActHas (spawn q c) s G r T = (A : Type') × CodeHas c s G q A × (T ≡ thread q A) × (type_nodes T ≤ most_nodes)
   ActHas (sync h) s G r T = (q : Prio) × (slice_get G h ≡ Some (thread q T)) × Holds s r q
   ActHas (call f ps es) s G r T = CallFits s G r f ps es T
   ActHas (do_block c) s G r T = CodeHas c s G r T

@@ -3,15 +3,15 @@ ghost use Rattle.priml_syntax.specs.Tree.{bool};
 ghost use Rattle.priml_syntax.specs.Read.{read_code, read_act, read_tail};
 ghost use Rattle.type_rules.specs.Typing.{CodeInScope, BodyInScope, ActInScope};
 ghost use Rattle.type_rules.specs.Shared.{read_shared};
-ghost use Rattle.type_rules.specs.Answers.{setting, scope_of, CodeAnswer, BodyAnswer, ActAnswer};
-ghost use Rattle.type_rules.specs.Helpers.{OutputAnswer, JoinedAnswer, ChosenAnswer, PartsAnswer, ThreadAnswer, SyncAnswer};
+ghost use Rattle.type_rules.specs.Inside.Answers.{setting, scope_of, CodeAnswer, BodyAnswer, ActAnswer};
+ghost use Rattle.type_rules.specs.Inside.Helpers.{OutputAnswer, JoinedAnswer, ChosenAnswer, PartsAnswer, ThreadAnswer, SyncAnswer};
 
 use crate::call::type_of_call;
 use crate::shared::{Shape, Shared};
 use crate::term::{fault, type_of};
 use crate::{TypeKind, TypeStop};
 use constraint_proof::Known;
-use priml_syntax::{Action, Block, Prio, Proc, Tail, TailForm, push};
+use priml_syntax::{Action, Block, MOST_NODES, Prio, Proc, Tail, TailForm, push};
 use std::alloc::Global;
 
 #[cycle(check)]
@@ -181,7 +181,7 @@ fn parts_of<'p>(t: Shared<'p>, at: u64) -> Result<(Shared<'p>, Shared<'p>), Type
 fn thread_of<'p>(alloc: Global, q: Prio, t: Shared<'p>, at: u64) -> Result<Shared<'p>, TypeStop>
     ensures { ThreadAnswer q (read_shared t.entry) at result }
 {
-    if t.nodes() >= 16 {
+    if t.nodes() >= MOST_NODES {
         return Err(fault(TypeKind::Wide, at));
     }
     Ok(Shared::thread(alloc, q, t)?)

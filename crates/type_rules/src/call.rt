@@ -3,8 +3,8 @@ ghost use Rattle.priml_syntax.specs.Tree.{call};
 ghost use Rattle.priml_syntax.specs.Read.{read_type, read_term};
 ghost use Rattle.type_rules.specs.Typing.{HaveTypes, AllInScope, subst_type};
 ghost use Rattle.type_rules.specs.Shared.{read_shared};
-ghost use Rattle.type_rules.specs.Answers.{setting, scope_of, ActAnswer, TermsStop};
-ghost use Rattle.type_rules.specs.Calls.{GivenAnswer};
+ghost use Rattle.type_rules.specs.Inside.Answers.{setting, scope_of, ActAnswer, TermsStop};
+ghost use Rattle.type_rules.specs.Inside.Calls.{GivenAnswer};
 
 use crate::shared::{Shared, subst_prio};
 use crate::term::{fault, type_of};

@@ -1,15 +1,16 @@
 ghost use Rattle.std.specs.Prelude.{◌≡◌, ◌<◌, length, MatchResult, IsTrue, ◌↔◌};
 ghost use Rattle.priml_syntax.specs.Size.{type_nodes};
+ghost use Rattle.priml_syntax.specs.Limits.{most_nodes};
 ghost use Rattle.priml_syntax.specs.Tree.{pair};
 ghost use Rattle.priml_syntax.specs.Read.{read_type, read_term};
 ghost use Rattle.type_rules.specs.Typing.{HasType, InScope, operand, gives};
 ghost use Rattle.type_rules.specs.Shared.{read_shared};
-ghost use Rattle.type_rules.specs.Answers.{scope_of, TermStops};
-ghost use Rattle.type_rules.specs.Helpers.{PairAnswer, FirstAnswer, SecondAnswer, LeftAnswer, RightAnswer, OperatorAnswer, TruthAnswer};
+ghost use Rattle.type_rules.specs.Inside.Answers.{scope_of, TermStops};
+ghost use Rattle.type_rules.specs.Inside.Helpers.{PairAnswer, FirstAnswer, SecondAnswer, LeftAnswer, RightAnswer, OperatorAnswer, TruthAnswer};
 
 use crate::shared::{Shape, Shared};
 use crate::{TypeFault, TypeKind, TypeStop};
-use priml_syntax::{Expr, ExprForm, Op, Ty};
+use priml_syntax::{Expr, ExprForm, MOST_NODES, Op, Ty};
 use std::alloc::Global;
 
 pub fn type_of<'p>(
@@ -139,11 +140,11 @@ fn negated<'p>(given: Shared<'p>, at: u64) -> Result<Shared<'p>, TypeStop>
     Ok(Shared::Bool)
 }
 
-// Whether the pair of the two would have more than 16 nodes.
+// Whether the pair of the two would be too large.
 fn is_wide(left: &Shared<'_>, right: &Shared<'_>) -> bool
-    ensures { IsTrue result ↔ (16 < type_nodes (pair (read_shared left.now) (read_shared right.now))) }
+    ensures { IsTrue result ↔ (most_nodes < type_nodes (pair (read_shared left.now) (read_shared right.now))) }
 {
-    left.nodes().saturating_add(right.nodes()) >= 16
+    left.nodes().saturating_add(right.nodes()) >= MOST_NODES
 }
 
 fn operand_of<'p>(op: Op) -> Shared<'p>

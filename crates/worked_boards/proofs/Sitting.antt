@@ -18,7 +18,7 @@ use Rattle.join_board.specs.Logs.{Each}
 use Rattle.join_board.specs.Views.{opened_view}
 use Rattle.join_board.proofs.Books.{all_of}
 use Rattle.join_board.proofs.Readings.{contains_at}
-use Rattle.worked_boards.specs.Seats.{Sits}
+use Rattle.worked_boards.specs.Inside.Seats.{Sits}
 
 pub sits_on : (job : Job) (b : Board) (s t : BoardSeat) → Sits job b s → IsSeatOf b t → SameSeat (knows s) (knows t) → Sits job b t
 sits_on job b s t sits of same = (of, ap the_job same.0 ∙ sits.1, ap (λ (a : About). a.quantum) same.0 ∙ sits.2, subst (λ (a : About). 0 < a.opened) (sym same.0) sits.3, same.1 ∙ sits.4)

@@ -4,7 +4,7 @@ ghost use Rattle.core_steps.specs.Moves.{read_job as the_job};
 ghost use Rattle.task_state.specs.Tasks.{read_task};
 ghost use Rattle.join_board.specs.Handles.{knows};
 ghost use Rattle.join_board.specs.Tasks.{CanRun, HasChild, IsChild, IsIdle};
-ghost use Rattle.worked_boards.specs.Seats.{Sits};
+ghost use Rattle.worked_boards.specs.Inside.Seats.{Sits};
 
 use crate::failed::Failed;
 use crate::seats::{all_ended, ask_stop, close, commit, count, enroll, look, open, park, stopped};

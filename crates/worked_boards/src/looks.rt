@@ -2,7 +2,7 @@
 ghost use Rattle.std.specs.Prelude.{IfOk, OnOk, IfSome};
 ghost use Rattle.std.specs.List.{All};
 ghost use Rattle.core_steps.specs.Moves.{read_job as the_job};
-ghost use Rattle.worked_boards.specs.Seats.{Sits};
+ghost use Rattle.worked_boards.specs.Inside.Seats.{Sits};
 
 use crate::calls::{Call, Row, says};
 use crate::failed::Failed;

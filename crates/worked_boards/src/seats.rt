@@ -5,7 +5,7 @@ ghost use Rattle.core_steps.specs.Moves.{read_job as the_job};
 ghost use Rattle.task_state.specs.Tasks.{read_task};
 ghost use Rattle.join_board.specs.Handles.{about};
 ghost use Rattle.join_board.specs.Tasks.{IsChild, IsIdle};
-ghost use Rattle.worked_boards.specs.Seats.{Commits, Sits};
+ghost use Rattle.worked_boards.specs.Inside.Seats.{Commits, Sits};
 
 use crate::failed::Failed;
 use join_board::{Board, BoardSeat, Commit, Enroll, Look, Park, StopCause};

@@ -16,7 +16,7 @@ use Rattle.core_steps.proofs.StepFacts.{ended_phase}
 use Rattle.core_steps.proofs.Traces.{traced}
 use Rattle.trace_book.specs.Segments.{SegmentFields}
 use Rattle.task_state.specs.Segments.{IsSegmentOf}
-use Rattle.worked_tasks.specs.Idle.{AreMeant}
+use Rattle.worked_tasks.specs.Inside.Idle.{AreMeant}
 
 each_record : (P : Entry → Type 0) (rs : List Record) (r : Record) → Each P (map read_record rs) → Contains rs r → P (read_record r)
 each_record P rs r a h = go rs a h.0 h.1 h.2

@@ -4,7 +4,7 @@ ghost use Rattle.core_steps.specs.Moves.{read_job as the_job};
 ghost use Rattle.trace_book.specs.Segments.{read_segment};
 ghost use Rattle.task_state.specs.Segments.{IsSegmentOf};
 ghost use Rattle.task_state.specs.Tasks.{read_task};
-ghost use Rattle.worked_tasks.specs.Idle.{IsIdle};
+ghost use Rattle.worked_tasks.specs.Inside.Idle.{IsIdle};
 
 use crate::turns::{Turn, is_turn, take_turn};
 use core_steps::Local;

@@ -3,7 +3,7 @@ ghost use Rattle.std.specs.Prelude.{IfOk, OnOk, IfSome, map};
 ghost use Rattle.core_steps.specs.Moves.{read_job as the_job};
 ghost use Rattle.priml_syntax.specs.Read.{read_record};
 ghost use Rattle.task_state.specs.Tasks.{read_task};
-ghost use Rattle.worked_tasks.specs.Idle.{AreMeant, IsIdle};
+ghost use Rattle.worked_tasks.specs.Inside.Idle.{AreMeant, IsIdle};
 
 use crate::turns::{Turn, take_turn};
 use priml_syntax::{Record, Records};

@@ -57,9 +57,9 @@ number_in (int_value n) = Some n
 number_in v = None
 
 -- the truth value that a value is
-abbrev pub truth_in : Value' → Option Bool
-truth_in (bool_value b) = Some b
-truth_in v = None
+abbrev pub bool_in : Value' → Option Bool
+bool_in (bool_value b) = Some b
+bool_in v = None
 
 -- the side of a sum that a value is of, and what it holds
 pub data Side : Type 0 where

@@ -11,6 +11,7 @@ use Rattle.core_steps.specs.Determined.{EndsWith, Trace}
 use Rattle.core_steps.specs.Steps.{Job, State}
 use Rattle.trace_book.specs.Segments.{SegmentFields}
 use Rattle.task_state.specs.Segments.{IsSegmentOf}
+use Rattle.task_state.specs.Tasks.{most_steps}
 use Rattle.task_state.specs.declared.task.Task.{Task}
 use Rattle.join_board.specs.Entries.{Entry}
 use Rattle.join_board.specs.Jobs.{the_job}
@@ -74,7 +75,7 @@ pub record Grew_by (v : View) (k : ℕ) (x : List Entry) : Type 0 where
   pub joins : AllJoins (HasSeenEnd v) segment.events
   pub quantum : length segment.events ≤ v.about.quantum
   pub worker : segment.worker < v.about.opened
-  pub room : v.own + length segment.events ≤ 2 ^ 59
+  pub room : v.own + length segment.events ≤ most_steps
   pub ahead : spawns segment.events ≤ v.live.ahead
   pub behind : v.live.behind + ends segment.events + (v.live.ahead - spawns segment.events) ≤ 1
 

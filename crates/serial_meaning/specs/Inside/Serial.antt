@@ -4,6 +4,7 @@ use Rattle.std.specs.List.{AllByRecursion}
 use Rattle.priml_syntax.specs.declared.event.Event.{Event}
 use Rattle.priml_syntax.specs.declared.event.Event.TheVariants.{Spawn, End}
 use Rattle.priml_syntax.specs.Events.{spawns}
+use Rattle.priml_syntax.specs.Limits.{most_parts, most_children}
 use Rattle.priml_syntax.specs.Paths.{Before, child_path}
 use Rattle.core_steps.specs.Steps.{Job}
 use Rattle.core_steps.specs.Config.{Thread, thread_by_path, ReachedIn, WaitsOn}
@@ -51,7 +52,7 @@ GoesOnAt job ss p = (ts : List Thread) → threads_from job.program ss ≡ Some 
 
 -- where the event is a Spawn, the thread has room for the child
 abbrev pub MaySpawn : Active → Event → Type 0
-MaySpawn x e = e ≡ Spawn → (length x.path < 32) × (x.children < 4294967295)
+MaySpawn x e = e ≡ Spawn → (length x.path < most_parts) × (x.children < most_children)
 
 -- what is left to be run behind such a step of the thread
 abbrev pub left_of : Active → Event → List Active

@@ -2,7 +2,7 @@ use Rattle.std.proofs.Common.{◌≡◌, ◌∙◌, ◌+◌, true, false, None, 
 use Rattle.std.proofs.Math.ListN.{replicate}
 use Rattle.constraint_proof.specs.Entailed.{Entailed, by_reflexive, most_variables}
 use Rattle.constraint_proof.specs.Numbers.{number}
-use Rattle.constraint_proof.specs.Search.{IsSearch, Kept}
+use Rattle.constraint_proof.specs.Inside.Search.{IsSearch, Kept}
 use Rattle.constraint_proof.proofs.Steps.{reflexive_accepted, started, found_accepted, found_exact, found_short}
 use Rattle.constraint_proof.proofs.search.derive.Goals as goal
 

@@ -1,7 +1,7 @@
 use Rattle.std.proofs.Common.{◌≡◌, length, map}
 use Rattle.priml_syntax.specs.Inputs.{read_lists as lists_of}
 use Rattle.inputs_text.specs.Inputs.{IsInputs}
-use Rattle.inputs_text.specs.Forms.{paths_in, paths_of}
+use Rattle.inputs_text.specs.Inside.Forms.{paths_in, paths_of}
 use Rattle.inputs_text.proofs.inputs.read_lists.Given as goal
 
 abbrev pub invariant-loop-line : goal.invariant-loop-line

@@ -2,7 +2,7 @@ use Rattle.std.proofs.Common.{sym, subst}
 use Rattle.crossbeam_deque.specs.Tasks.{Forks}
 use Rattle.crossbeam_deque.specs.Handles.{worker_port}
 use Rattle.priority_deques.specs.declared.view.LaneView.{LaneView}
-use Rattle.priority_deques.specs.Rule.{Kept}
+use Rattle.priority_deques.specs.Inside.Rule.{Kept}
 use Rattle.priority_deques.proofs.Moves.{names}
 use Rattle.priority_deques.proofs.deque.name_as.Goals as goal
 

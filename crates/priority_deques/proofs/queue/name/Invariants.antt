@@ -1,4 +1,4 @@
-use Rattle.priority_deques.specs.Rule.{newcomer}
+use Rattle.priority_deques.specs.Inside.Rule.{newcomer}
 use Rattle.priority_deques.proofs.queue.name.Given as goal
 
 abbrev pub ghosts-name_as : goal.ghosts-name_as

@@ -1,7 +1,7 @@
 use Rattle.std.proofs.Common.{sym, subst}
 use Rattle.crossbeam_queue.specs.Fifo.{Forks}
 use Rattle.priority_deques.specs.declared.view.LaneView.{LaneView}
-use Rattle.priority_deques.specs.Rule.{Kept}
+use Rattle.priority_deques.specs.Inside.Rule.{Kept}
 use Rattle.priority_deques.proofs.Moves.{names}
 use Rattle.priority_deques.proofs.queue.name_as.Goals as goal
 

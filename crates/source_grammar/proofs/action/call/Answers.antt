@@ -1,6 +1,6 @@
 use Rattle.std.proofs.Common.{arith}
 use Rattle.std.proofs.lemmas.Grind.{common_steps}
-use Rattle.source_grammar.specs.Machine.{parens}
+use Rattle.source_grammar.specs.Inside.Machine.{parens}
 use Rattle.source_grammar.proofs.BlockSteps.{steps}
 use Rattle.source_grammar.proofs.BlockForms.{call_made}
 use Rattle.source_grammar.proofs.action.call.Goals as goal

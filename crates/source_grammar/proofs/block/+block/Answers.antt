@@ -1,7 +1,7 @@
 use Rattle.std.proofs.Common.{◌∷◌, sym, refl, ◌∙◌, arith}
 use Rattle.std.proofs.lemmas.Grind.{common_steps}
-use Rattle.source_grammar.specs.Machine.{Binds}
-use Rattle.source_grammar.proofs.BlockForms.{bind_made, spawn_made, block_made, more_made, branch_made, split_made}
+use Rattle.source_grammar.specs.Inside.Machine.{Binds}
+use Rattle.source_grammar.proofs.BlockForms.{bind_made, spawn_made, block_made, more_made, if_tail_made, case_tail_made}
 use Rattle.source_grammar.proofs.BlockSteps.{binds-name, binds-tail}
 use Rattle.source_grammar.proofs.block.+block.Goals as goal
 
@@ -29,11 +29,11 @@ binds-returns-clause-moves t c = λ xs. c.binds.invariant.moved xs ∙ binds-tai
 pub block-returns-clause-ok : goal.block-returns-clause-ok
 block-returns-clause-ok t c = block_made _ _ _ _ _ _ _ _ c.in_ok-at.ensures.ok c.in_ok-binds.ensures.ok c.in_ok-tail.ensures.ok c.in_ok-expect_sign.ensures.ok refl
 
-pub branch-returns-clause-ok : goal.branch-returns-clause-ok
-branch-returns-clause-ok t c =
-    branch_made _ _ _ _ _ _ _ _ _ _ _ _ _ c.in_ok-at.ensures.ok c.in_ok-test.ensures.ok c.in_ok-yes.ensures.ok c.in_ok-expect_word.ensures.ok c.in_ok-no.ensures.ok refl refl
+pub if_tail-returns-clause-ok : goal.if_tail-returns-clause-ok
+if_tail-returns-clause-ok t c =
+    if_tail_made _ _ _ _ _ _ _ _ _ _ _ _ _ c.in_ok-at.ensures.ok c.in_ok-test.ensures.ok c.in_ok-yes.ensures.ok c.in_ok-expect_word.ensures.ok c.in_ok-no.ensures.ok refl refl
 
-pub split-returns-clause-ok : goal.split-returns-clause-ok
-split-returns-clause-ok t c =
-    split_made _ _ _ _ _ _ _ _ _ _ _ _ _ _ _ _ _ _ _ c.in_ok-at.ensures.ok c.in_ok-sum.ensures.ok c.in_ok-expect_word.ensures.ok c.in_ok-first.ensures.ok c.in_ok-left.ensures.ok
+pub case_tail-returns-clause-ok : goal.case_tail-returns-clause-ok
+case_tail-returns-clause-ok t c =
+    case_tail_made _ _ _ _ _ _ _ _ _ _ _ _ _ _ _ _ _ _ _ c.in_ok-at.ensures.ok c.in_ok-sum.ensures.ok c.in_ok-expect_word.ensures.ok c.in_ok-first.ensures.ok c.in_ok-left.ensures.ok
     c.in_ok-expect_word-2.ensures.ok c.in_ok-second.ensures.ok c.in_ok-right.ensures.ok refl refl

@@ -2,8 +2,8 @@ use Rattle.std.proofs.Common.{◌≡◌, ◌∷◌, ◌+◌, ◌*◌, ◌≤◌,
 use Rattle.source_tokens.specs.declared.token.Token.{Token}
 use Rattle.source_grammar.specs.Grammar.{IsBody}
 use Rattle.source_grammar.specs.RawTree.{RawBody}
-use Rattle.source_grammar.specs.Lists.{body_of}
-use Rattle.source_grammar.specs.Machine.{Symbol, halt, Binds}
+use Rattle.source_grammar.specs.Inside.Lists.{body_of}
+use Rattle.source_grammar.specs.Inside.Machine.{Symbol, halt, Binds}
 use Rattle.source_grammar.proofs.block.+block.Given as goal
 
 abbrev pub decreases-action : goal.decreases-action
@@ -21,17 +21,17 @@ decreases-block l = 2 * length l.tokens.now
 abbrev pub decreases-boxed_block : goal.decreases-boxed_block
 decreases-boxed_block l = 2 * length l.tokens.now + 1
 
-abbrev pub decreases-branch : goal.decreases-branch
-decreases-branch l = 2 * length l.tokens.now
+abbrev pub decreases-if_tail : goal.decreases-if_tail
+decreases-if_tail l = 2 * length l.tokens.now
 
-abbrev pub decreases-run : goal.decreases-run
-decreases-run l = 2 * length l.tokens.now
+abbrev pub decreases-do_block : goal.decreases-do_block
+decreases-do_block l = 2 * length l.tokens.now
 
 abbrev pub decreases-spawn : goal.decreases-spawn
 decreases-spawn l = 2 * length l.tokens.now
 
-abbrev pub decreases-split : goal.decreases-split
-decreases-split l = 2 * length l.tokens.now
+abbrev pub decreases-case_tail : goal.decreases-case_tail
+decreases-case_tail l = 2 * length l.tokens.now
 
 abbrev pub decreases-tail : goal.decreases-tail
 decreases-tail l = 2 * length l.tokens.now + 1

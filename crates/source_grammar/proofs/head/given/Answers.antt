@@ -1,6 +1,6 @@
 use Rattle.std.proofs.Common.{arith}
 use Rattle.std.proofs.lemmas.Grind.{common_steps}
-use Rattle.source_grammar.specs.Machine.{brackets}
+use Rattle.source_grammar.specs.Inside.Machine.{brackets}
 use Rattle.source_grammar.proofs.HeadSteps.{steps}
 use Rattle.source_grammar.proofs.HeadForms.{given_made}
 use Rattle.source_grammar.proofs.head.given.Goals as goal

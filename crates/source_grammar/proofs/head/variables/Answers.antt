@@ -1,6 +1,6 @@
 use Rattle.std.proofs.Common.{arith}
 use Rattle.std.proofs.lemmas.Grind.{common_steps}
-use Rattle.source_grammar.specs.Machine.{variables}
+use Rattle.source_grammar.specs.Inside.Machine.{variables}
 use Rattle.source_grammar.proofs.HeadSteps.{steps}
 use Rattle.source_grammar.proofs.HeadForms.{variables_made}
 use Rattle.source_grammar.proofs.head.variables.Goals as goal

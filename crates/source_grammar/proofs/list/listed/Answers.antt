@@ -1,6 +1,6 @@
 use Rattle.std.proofs.Common.{[], ◌∷◌, sym, ◌∙◌}
 use Rattle.source_grammar.specs.Grammar.{IsListed}
-use Rattle.source_grammar.specs.Machine.{AtEnd}
+use Rattle.source_grammar.specs.Inside.Machine.{AtEnd}
 use Rattle.source_grammar.proofs.CommaLists.{listed-more}
 use Rattle.source_grammar.proofs.Steps.{if_ok, moves_to_along}
 use Rattle.source_grammar.proofs.list.listed.Goals as goal

@@ -1,6 +1,6 @@
 use Rattle.std.proofs.Common.{◌∷◌, sym, ◌∙◌, arith}
 use Rattle.source_grammar.specs.Grammar.{IsSeparated}
-use Rattle.source_grammar.specs.Machine.{More}
+use Rattle.source_grammar.specs.Inside.Machine.{More}
 use Rattle.source_grammar.proofs.CommaLists.{separated_behind, halt-separated, more-comma}
 use Rattle.source_grammar.proofs.list.separated.Goals as goal
 

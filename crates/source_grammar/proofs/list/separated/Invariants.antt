@@ -1,6 +1,6 @@
 use Rattle.std.proofs.Common.{◌≡◌, ◌∷◌, ◌<◌, length, List}
 use Rattle.source_grammar.specs.Grammar.{IsSeparated}
-use Rattle.source_grammar.specs.Machine.{Symbol, End, halt, Separated, More}
+use Rattle.source_grammar.specs.Inside.Machine.{Symbol, End, halt, Separated, More}
 use Rattle.source_grammar.proofs.list.separated.Given as goal
 
 abbrev pub invariant-items : goal.invariant-items

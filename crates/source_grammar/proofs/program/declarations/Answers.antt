@@ -2,7 +2,7 @@ use Rattle.std.proofs.Common.{◌∷◌, List, [], Vec, Global, refl, sym, ◌�
 use Rattle.std.proofs.lemmas.Result.{err_from_is_err_and}
 use Rattle.source_grammar.specs.declared.raw.RawDecl.{RawDecl}
 use Rattle.source_grammar.specs.Grammar.{IsDecls}
-use Rattle.source_grammar.specs.Machine.{Symbol, Program, Main}
+use Rattle.source_grammar.specs.Inside.Machine.{Symbol, Program, Main}
 use Rattle.source_grammar.proofs.HeadForms.{decls_push}
 use Rattle.source_grammar.proofs.HeadSteps.{program-declaration, program-main}
 use Rattle.source_grammar.proofs.Steps.{part_refuses}

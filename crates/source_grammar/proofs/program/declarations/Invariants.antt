@@ -1,7 +1,7 @@
 use Rattle.std.proofs.Common.{◌≡◌, ◌∷◌, length, List, map}
 use Rattle.source_grammar.specs.Grammar.{IsDecls}
 use Rattle.source_grammar.specs.RawRead.{read_decl}
-use Rattle.source_grammar.specs.Machine.{Symbol, halt, Program}
+use Rattle.source_grammar.specs.Inside.Machine.{Symbol, halt, Program}
 use Rattle.source_grammar.proofs.program.declarations.Given as goal
 
 abbrev pub invariant-declarations : goal.invariant-declarations

@@ -8,10 +8,10 @@ use Rattle.source_grammar.specs.RawRead.{read_action, read_block, read_expr}
 use Rattle.source_reader.specs.declared.faults.What.TheVariants.{Scope}
 use Rattle.source_reader.specs.Faults.{term_faults, scope_faults, body_faults, act_faults, code_faults, room_faults}
 use Rattle.source_reader.specs.Resolved.{body_meant, act_meant, code_meant}
-use Rattle.source_reader.specs.Fits.{BodyFits, CodeFits}
-use Rattle.source_reader.specs.Gives.{First}
-use Rattle.source_reader.specs.Known.{env_in}
-use Rattle.source_reader.specs.Bodies.{raw_body_of}
+use Rattle.source_reader.specs.Inside.Fits.{BodyFits, CodeFits}
+use Rattle.source_reader.specs.Inside.Gives.{First}
+use Rattle.source_reader.specs.Inside.Known.{env_in}
+use Rattle.source_reader.specs.Inside.Bodies.{raw_body_of}
 use Rattle.source_reader.proofs.RawBlocks.{raw_tail_of, opened, next_item, no_item}
 use Rattle.source_reader.proofs.Lists.{gives_first, handed_on, handed_first, handed_second, full}
 use Rattle.source_reader.proofs.Walk.{passed, regrouped, made_more, kept_push, code_first, deeper}
@@ -106,13 +106,13 @@ block_of-returns-clause-gives t c =
           ∙ ap (tree.block (out-RawBlock b).at) (sym c.loop-bind.invariant.made) ∙ sym (ap (λ x. code_meant x env old) same),
     )
 
-pub bound-returns-then-len-ge-SCOPE-clause-gives : goal.bound-returns-then-len-ge-SCOPE-clause-gives
-bound-returns-then-len-ge-SCOPE-clause-gives t c =
-    full c.args.raw.now.name.at (length c.args.scope.now.items) 32 Scope (act_faults (read_action c.args.raw.now.action) (env_in c.args.names.now) c.args.scope.now.items) (omega (arith, c.len.ensures, c.if-len-ge-SCOPE.true))
+pub bound-returns-then-len-ge-MOST_IN_SCOPE-clause-gives : goal.bound-returns-then-len-ge-MOST_IN_SCOPE-clause-gives
+bound-returns-then-len-ge-MOST_IN_SCOPE-clause-gives t c =
+    full c.args.raw.now.name.at (length c.args.scope.now.items) 32 Scope (act_faults (read_action c.args.raw.now.action) (env_in c.args.names.now) c.args.scope.now.items) (omega (arith, c.len.ensures, c.if-len-ge-MOST_IN_SCOPE.true))
 
-pub branch-returns-then-outer-ge-SCOPE-clause-gives : goal.branch-returns-then-outer-ge-SCOPE-clause-gives
-branch-returns-then-outer-ge-SCOPE-clause-gives t c =
-    full c.args.inside.now.at (length c.args.scope.now.items) 32 Scope (code_faults (read_block c.args.raw.now) (env_in c.args.names.now) (c.args.scope.now.items ++ c.args.inside.now.id ∷ [])) (omega (arith, c.len-outer.ensures, c.if-outer-ge-SCOPE.true))
+pub branch-returns-then-outer-ge-MOST_IN_SCOPE-clause-gives : goal.branch-returns-then-outer-ge-MOST_IN_SCOPE-clause-gives
+branch-returns-then-outer-ge-MOST_IN_SCOPE-clause-gives t c =
+    full c.args.inside.now.at (length c.args.scope.now.items) 32 Scope (code_faults (read_block c.args.raw.now) (env_in c.args.names.now) (c.args.scope.now.items ++ c.args.inside.now.id ∷ [])) (omega (arith, c.len-outer.ensures, c.if-outer-ge-MOST_IN_SCOPE.true))
 
 pub action_of-returns-in_err-own-in-Spawn-clause-gives : goal.action_of-returns-in_err-own-in-Spawn-clause-gives
 action_of-returns-in_err-own-in-Spawn-clause-gives t c =

@@ -7,9 +7,9 @@ use Rattle.source_grammar.specs.declared.raw.RawTailForm.{size-RawTailForm}
 use Rattle.priml_syntax.specs.Lists.{body_of}
 use Rattle.source_reader.specs.Faults.{body_faults}
 use Rattle.source_reader.specs.Resolved.{body_meant}
-use Rattle.source_reader.specs.Fits.{BodyFits}
-use Rattle.source_reader.specs.Bodies.{raw_body_of}
-use Rattle.source_reader.specs.Known.{env_in}
+use Rattle.source_reader.specs.Inside.Fits.{BodyFits}
+use Rattle.source_reader.specs.Inside.Bodies.{raw_body_of}
+use Rattle.source_reader.specs.Inside.Known.{env_in}
 use Rattle.source_reader.proofs.RawBlocks.{raw_tail_of}
 use Rattle.source_reader.proofs.block.+resolve.Given as goal
 

@@ -1,7 +1,7 @@
 use Rattle.std.proofs.Common.{◌++◌, map, refl, ap}
 use Rattle.source_grammar.specs.RawRead.{read_expr}
 use Rattle.source_reader.specs.Faults.{prios_faults, terms_faults}
-use Rattle.source_reader.specs.Known.{env_in}
+use Rattle.source_reader.specs.Inside.Known.{env_in}
 use Rattle.source_reader.proofs.Lists.{gives_first, handed_on}
 use Rattle.source_reader.proofs.block.call.Goals as goal
 

@@ -4,8 +4,8 @@ use Rattle.source_grammar.specs.RawRead.{read_decl}
 use Rattle.source_reader.specs.Names.{priorities, procedures}
 use Rattle.source_reader.specs.Faults.{decls_faults}
 use Rattle.source_reader.specs.Resolved.{pairs_meant, procs_meant}
-use Rattle.source_reader.specs.Gives.{First}
-use Rattle.source_reader.specs.Known.{env_in}
+use Rattle.source_reader.specs.Inside.Gives.{First}
+use Rattle.source_reader.specs.Inside.Known.{env_in}
 use Rattle.source_reader.proofs.Lists.{gives_first, found_first}
 use Rattle.source_reader.proofs.Declarations.{next_bodies, next_names, next_called, next_pairs, next_procs, next_faults, seen_so_far}
 use Rattle.source_reader.proofs.declared.declare_all.Goals as goal

@@ -4,8 +4,8 @@ use Rattle.source_grammar.specs.RawRead.{read_decl}
 use Rattle.source_reader.specs.Names.{priorities, procedures}
 use Rattle.source_reader.specs.Faults.{decls_faults}
 use Rattle.source_reader.specs.Resolved.{pairs_meant, procs_meant}
-use Rattle.source_reader.specs.Fits.{BodiesFit}
-use Rattle.source_reader.specs.Known.{env_in}
+use Rattle.source_reader.specs.Inside.Fits.{BodiesFit}
+use Rattle.source_reader.specs.Inside.Known.{env_in}
 use Rattle.source_reader.proofs.declared.declare_all.Given as goal
 
 abbrev pub invariant-loop-decl : goal.invariant-loop-decl

@@ -1,7 +1,7 @@
 use Rattle.std.proofs.Common.{◌≡◌, length, map, take, drop}
 use Rattle.source_grammar.specs.RawRead.{read_decl}
 use Rattle.source_reader.specs.Names.{priorities, procedures}
-use Rattle.source_reader.specs.Fits.{DeclsFit}
+use Rattle.source_reader.specs.Inside.Fits.{DeclsFit}
 use Rattle.source_reader.proofs.declared.names_of.Given as goal
 
 abbrev pub invariant-loop-decl : goal.invariant-loop-decl

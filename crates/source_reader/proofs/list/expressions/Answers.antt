@@ -3,8 +3,8 @@ use Rattle.source_grammar.specs.RawRead.{read_expr}
 use Rattle.source_grammar.specs.RawTree.{RawTerm}
 use Rattle.source_reader.specs.Faults.{terms_faults}
 use Rattle.source_reader.specs.Resolved.{term_meant}
-use Rattle.source_reader.specs.Fits.{TermsFit}
-use Rattle.source_reader.specs.Known.{env_in}
+use Rattle.source_reader.specs.Inside.Fits.{TermsFit}
+use Rattle.source_reader.specs.Inside.Known.{env_in}
 use Rattle.source_reader.proofs.Lists.{gives_first, handed_on}
 use Rattle.source_reader.proofs.Walk.{next_term, read_next}
 use Rattle.source_reader.proofs.list.expressions.Goals as goal

@@ -3,8 +3,8 @@ use Rattle.priml_syntax.specs.Read.{read_term}
 use Rattle.source_grammar.specs.RawRead.{read_expr}
 use Rattle.source_reader.specs.Faults.{terms_faults}
 use Rattle.source_reader.specs.Resolved.{terms_meant}
-use Rattle.source_reader.specs.Fits.{TermsFit}
-use Rattle.source_reader.specs.Known.{env_in}
+use Rattle.source_reader.specs.Inside.Fits.{TermsFit}
+use Rattle.source_reader.specs.Inside.Known.{env_in}
 use Rattle.source_reader.proofs.list.expressions.Given as goal
 
 abbrev pub invariant-loop-raw : goal.invariant-loop-raw

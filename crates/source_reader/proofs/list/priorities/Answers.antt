@@ -2,7 +2,7 @@ use Rattle.std.proofs.Common.{◌+◌, ◌++◌, drop, ap, ◌∙◌}
 use Rattle.source_grammar.specs.declared.raw.Name.{Name}
 use Rattle.source_reader.specs.Names.{prio_of}
 use Rattle.source_reader.specs.Faults.{prios_faults}
-use Rattle.source_reader.specs.Known.{env_in}
+use Rattle.source_reader.specs.Inside.Known.{env_in}
 use Rattle.source_reader.proofs.Lists.{gives_first, handed_on}
 use Rattle.source_reader.proofs.Walk.{next_of, made_next}
 use Rattle.source_reader.proofs.list.priorities.Goals as goal

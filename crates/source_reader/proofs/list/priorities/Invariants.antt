@@ -1,7 +1,7 @@
 use Rattle.std.proofs.Common.{◌≡◌, take, drop}
 use Rattle.source_reader.specs.Faults.{prios_faults}
 use Rattle.source_reader.specs.Resolved.{prios_meant}
-use Rattle.source_reader.specs.Known.{env_in}
+use Rattle.source_reader.specs.Inside.Known.{env_in}
 use Rattle.source_reader.proofs.list.priorities.Given as goal
 
 abbrev pub invariant-loop-name : goal.invariant-loop-name

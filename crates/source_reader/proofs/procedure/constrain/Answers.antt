@@ -3,7 +3,7 @@ use Rattle.source_reader.specs.declared.faults.Fault.TheVariants.{TooMany}
 use Rattle.source_reader.specs.declared.faults.What.TheVariants.{Constraints}
 use Rattle.source_reader.specs.declared.faults.ResolveStop.TheVariants as stop
 use Rattle.source_reader.specs.Faults.{prio_faults, room_faults}
-use Rattle.source_reader.specs.Known.{env_in}
+use Rattle.source_reader.specs.Inside.Known.{env_in}
 use Rattle.source_reader.proofs.Lists.{gives_first, found_first, full}
 use Rattle.source_reader.proofs.Declarations.{past}
 use Rattle.source_reader.proofs.procedure.constrain.Goals as goal
@@ -16,12 +16,12 @@ returns-in_err-first-clause-faults c =
     let e = c.in_err-first.field-0.0 in
     found_first (low ++ more) e _ c.from_residual.ensures.1 (gives_first (low ++ more) low more e refl c.in_err-first.ensures)
 
-pub returns-then-len-ge-CONSTRAINTS-clause-faults : goal.returns-then-len-ge-CONSTRAINTS-clause-faults
-returns-then-len-ge-CONSTRAINTS-clause-faults c =
+pub returns-then-len-ge-MOST_CONSTRAINTS-clause-faults : goal.returns-then-len-ge-MOST_CONSTRAINTS-clause-faults
+returns-then-len-ge-MOST_CONSTRAINTS-clause-faults c =
     let env = env_in c.args.names.now in
     let low = prio_faults env c.args.low.now in
     let high = prio_faults env c.args.high.now in
     let at = c.args.low.now.at in
     let have = length c.args.all.now.items in
     past (low ++ (room_faults at have 16 Constraints ++ high)) low (room_faults at have 16 Constraints ++ high) (stop.Fault (TooMany at Constraints)) refl c.in_ok-first.ensures.0
-    (full at have 16 Constraints high (omega (arith, c.len.ensures, c.if-len-ge-CONSTRAINTS.true)))
+    (full at have 16 Constraints high (omega (arith, c.len.ensures, c.if-len-ge-MOST_CONSTRAINTS.true)))

@@ -1,7 +1,7 @@
 use Rattle.std.proofs.Common.{◌+◌, length, drop, get_or, ap, ◌∙◌}
 use Rattle.source_grammar.specs.declared.raw.Name.{Name}
 use Rattle.source_reader.specs.Faults.{givens_faults, given_faults}
-use Rattle.source_reader.specs.Known.{env_in}
+use Rattle.source_reader.specs.Inside.Known.{env_in}
 use Rattle.source_reader.proofs.Lists.{gives_first, handed_on}
 use Rattle.source_reader.proofs.Walk.{next_of}
 use Rattle.source_reader.proofs.procedure.constraints.Goals as goal

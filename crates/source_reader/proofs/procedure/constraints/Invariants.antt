@@ -1,7 +1,7 @@
 use Rattle.std.proofs.Common.{◌≡◌, length, map, take, drop}
 use Rattle.source_reader.specs.Faults.{givens_faults}
 use Rattle.source_reader.specs.Resolved.{given_meant}
-use Rattle.source_reader.specs.Known.{env_in}
+use Rattle.source_reader.specs.Inside.Known.{env_in}
 use Rattle.source_reader.proofs.procedure.constraints.Given as goal
 
 abbrev pub invariant-loop-low : goal.invariant-loop-low

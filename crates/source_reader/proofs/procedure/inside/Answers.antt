@@ -7,8 +7,8 @@ use Rattle.source_grammar.specs.RawRead.{read_proc as read_raw_proc}
 use Rattle.source_reader.specs.declared.faults.ResolveStop.{ResolveStop}
 use Rattle.source_reader.specs.Names.{Env, param_ids}
 use Rattle.source_reader.specs.Faults.{prio_faults, written_faults, code_faults, givens_faults, params_faults, routine_faults, inside_faults}
-use Rattle.source_reader.specs.Gives.{First}
-use Rattle.source_reader.specs.Known.{env_in}
+use Rattle.source_reader.specs.Inside.Gives.{First}
+use Rattle.source_reader.specs.Inside.Known.{env_in}
 use Rattle.source_reader.proofs.Lists.{gives_first, gives_second, handed_on, handed_first, handed_second}
 use Rattle.source_reader.proofs.Declarations.{past}
 use Rattle.source_reader.proofs.procedure.inside.Goals as goal

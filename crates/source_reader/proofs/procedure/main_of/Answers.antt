@@ -1,7 +1,7 @@
 use Rattle.std.proofs.Common.{refl, ◌++◌, []}
 use Rattle.source_grammar.specs.RawRead.{read_main}
 use Rattle.source_reader.specs.Faults.{prio_faults, written_faults, code_faults, main_faults}
-use Rattle.source_reader.specs.Known.{env_in}
+use Rattle.source_reader.specs.Inside.Known.{env_in}
 use Rattle.source_reader.proofs.Lists.{gives_first, gives_second, handed_on}
 use Rattle.source_reader.proofs.procedure.main_of.Goals as goal
 

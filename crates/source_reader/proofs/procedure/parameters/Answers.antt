@@ -4,7 +4,7 @@ use Rattle.source_grammar.specs.RawRead.{read_param, read_written}
 use Rattle.source_reader.specs.declared.faults.What.TheVariants.{Parameters}
 use Rattle.source_reader.specs.Faults.{again_faults, written_faults, params_faults}
 use Rattle.source_reader.specs.Names.{Env}
-use Rattle.source_reader.specs.Known.{env_in}
+use Rattle.source_reader.specs.Inside.Known.{env_in}
 use Rattle.source_reader.proofs.Lists.{gives_first, gives_second, found_first}
 use Rattle.source_reader.proofs.Declarations.{mapped_next}
 use Rattle.source_reader.proofs.procedure.parameters.Goals as goal

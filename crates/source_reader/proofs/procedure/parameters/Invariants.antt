@@ -4,7 +4,7 @@ use Rattle.source_grammar.specs.RawRead.{read_param}
 use Rattle.source_reader.specs.Names.{param_ids}
 use Rattle.source_reader.specs.Faults.{params_faults}
 use Rattle.source_reader.specs.Resolved.{param_meant}
-use Rattle.source_reader.specs.Known.{env_in}
+use Rattle.source_reader.specs.Inside.Known.{env_in}
 use Rattle.source_reader.proofs.procedure.parameters.Given as goal
 
 abbrev pub invariant-loop-param : goal.invariant-loop-param

@@ -2,8 +2,8 @@ use Rattle.std.proofs.Common.{◌≡◌, ◌∙◌, [], refl, ap, subst}
 use Rattle.source_grammar.specs.RawRead.{read_proc as read_raw_proc}
 use Rattle.source_reader.specs.Names.{ids, with_vars}
 use Rattle.source_reader.specs.Faults.{vars_faults, procedure_faults, inside_faults}
-use Rattle.source_reader.specs.Gives.{First}
-use Rattle.source_reader.specs.Known.{env_in}
+use Rattle.source_reader.specs.Inside.Gives.{First}
+use Rattle.source_reader.specs.Inside.Known.{env_in}
 use Rattle.source_reader.proofs.Lists.{gives_first, handed_on}
 use Rattle.source_reader.proofs.Declarations.{past}
 use Rattle.source_reader.proofs.procedure.procedure_of.Goals as goal

@@ -6,7 +6,7 @@ use Rattle.source_tokens.specs.Names.{name_bytes}
 use Rattle.source_tokens.proofs.Lawful.{lexed_lawful}
 use Rattle.source_grammar.specs.RawRead.{read_raw}
 use Rattle.priml_syntax.specs.Read.{read_program}
-use Rattle.source_reader.specs.Fits.{Fits}
+use Rattle.source_reader.specs.Inside.Fits.{Fits}
 use Rattle.source_reader.proofs.Fitting.{lexed_fits, lexed_ascii, program_fits}
 use Rattle.source_reader.proofs.InOrder.{faults_ascend}
 use Rattle.source_reader.proofs.OneFault.{once_if, handed}

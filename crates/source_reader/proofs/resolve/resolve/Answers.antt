@@ -6,9 +6,9 @@ use Rattle.source_tokens.specs.Names.{name_bytes}
 use Rattle.source_reader.specs.Names.{priorities, env_of}
 use Rattle.source_reader.specs.Faults.{decls_faults, main_faults, faults}
 use Rattle.source_reader.specs.Resolved.{pairs_meant, procs_meant}
-use Rattle.source_reader.specs.Gives.{First}
-use Rattle.source_reader.specs.Known.{env_in}
-use Rattle.source_reader.specs.Narrow.{narrowed}
+use Rattle.source_reader.specs.Inside.Gives.{First}
+use Rattle.source_reader.specs.Inside.Known.{env_in}
+use Rattle.source_reader.specs.Inside.Narrow.{narrowed}
 use Rattle.source_reader.proofs.Lists.{gives_first, handed_on}
 use Rattle.source_reader.proofs.Declarations.{past, declared_fit, all_clean, all_made}
 use Rattle.source_reader.proofs.Narrow.{main_same, decls_same, env_same}

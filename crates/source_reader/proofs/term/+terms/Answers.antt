@@ -1,7 +1,7 @@
 use Rattle.std.proofs.Common.{refl}
 use Rattle.source_grammar.specs.RawRead.{read_expr, read_written}
 use Rattle.source_reader.specs.Faults.{term_faults, written_faults}
-use Rattle.source_reader.specs.Known.{env_in}
+use Rattle.source_reader.specs.Inside.Known.{env_in}
 use Rattle.source_reader.proofs.Lists.{handed_first}
 use Rattle.source_reader.proofs.term.+terms.Goals as goal
 

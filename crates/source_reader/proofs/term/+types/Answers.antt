@@ -1,8 +1,8 @@
 use Rattle.std.proofs.Common.{refl, subst}
 use Rattle.source_grammar.specs.RawRead.{read_ty}
 use Rattle.source_reader.specs.Faults.{type_faults}
-use Rattle.source_reader.specs.Gives.{First}
-use Rattle.source_reader.specs.Known.{env_in}
+use Rattle.source_reader.specs.Inside.Gives.{First}
+use Rattle.source_reader.specs.Inside.Known.{env_in}
 use Rattle.source_reader.proofs.Lists.{gives_first, handed_on}
 use Rattle.source_reader.proofs.term.+types.Goals as goal
 

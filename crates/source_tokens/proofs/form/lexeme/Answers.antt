@@ -4,7 +4,7 @@ use Rattle.std.proofs.lemmas.Option.{unwrap_or-slice_get}
 use Rattle.std.specs.Prelude.{unwrap_or}
 use Rattle.std.proofs.Common.{ap}
 use Rattle.source_tokens.specs.Lexemes.{is_part, is_digit, BeginsNone}
-use Rattle.source_tokens.specs.Forms.{IsSignAt}
+use Rattle.source_tokens.specs.Inside.Forms.{IsSignAt}
 use Rattle.source_tokens.proofs.Longest.{word_front, word_longest, number_front, number_longest, byte_begins_none}
 use Rattle.source_tokens.proofs.form.lexeme.Goals as goal
 

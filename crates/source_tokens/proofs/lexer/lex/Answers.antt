@@ -1,7 +1,7 @@
 use Rattle.std.proofs.Common.{◌≡◌, [], ap, sym, subst, ◌∙◌}
 use Rattle.std.proofs.lemmas.List.{flat_map_more}
 use Rattle.source_tokens.specs.Lexes.{IsLexed}
-use Rattle.source_tokens.specs.Lexer.{tokens_of}
+use Rattle.source_tokens.specs.Inside.Lexer.{tokens_of}
 use Rattle.source_tokens.specs.Names.{name_bytes}
 use Rattle.source_tokens.specs.Runs.{joined}
 use Rattle.source_tokens.proofs.Lawful.{lexed_lawful}

@@ -1,5 +1,5 @@
 use Rattle.std.proofs.Common.{length}
-use Rattle.source_tokens.specs.Lexer.{Completes}
+use Rattle.source_tokens.specs.Inside.Lexer.{Completes}
 use Rattle.source_tokens.proofs.lexer.lex.Given as goal
 
 abbrev pub invariant-loop-lexer : goal.invariant-loop-lexer

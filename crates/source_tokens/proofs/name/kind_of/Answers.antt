@@ -1,6 +1,6 @@
 use Rattle.std.proofs.Common.{refl, subst}
 use Rattle.source_tokens.specs.Lexes.{word, sign}
-use Rattle.source_tokens.specs.Forms.{IsForm}
+use Rattle.source_tokens.specs.Inside.Forms.{IsForm}
 use Rattle.source_tokens.proofs.Numbered.{named}
 use Rattle.source_tokens.proofs.name.kind_of.Goals as goal
 

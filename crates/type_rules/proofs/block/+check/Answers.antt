@@ -6,7 +6,7 @@ use Rattle.priml_syntax.specs.Lists.{body_of}
 use Rattle.priml_syntax.specs.Tree.{if_tail}
 use Rattle.type_rules.specs.Shared.{read_shared}
 use Rattle.type_rules.specs.Typing.{CodeInScope, BodyInScope, HasType, CodeHas}
-use Rattle.type_rules.specs.Answers.{setting, scope_of, CodeStops, BodyAnswer, BodyStops, CarriesOn}
+use Rattle.type_rules.specs.Inside.Answers.{setting, scope_of, CodeStops, BodyAnswer, BodyStops, CarriesOn}
 use Rattle.type_rules.proofs.Handed.{handed}
 use Rattle.type_rules.proofs.Steps.{starts, goes_on, stops, passed, next_item, opened, answers, scope_push, kept_push, long_push, leads_over, second_stops}
 use Rattle.type_rules.proofs.block.+check.Goals as goal

@@ -5,7 +5,7 @@ use Rattle.priml_syntax.specs.declared.block.Tail.{size-Tail}
 use Rattle.priml_syntax.specs.Read.{read_tail}
 use Rattle.priml_syntax.specs.Lists.{body_of}
 use Rattle.type_rules.specs.Typing.{BodyInScope}
-use Rattle.type_rules.specs.Answers.{CarriesOn, setting, scope_of}
+use Rattle.type_rules.specs.Inside.Answers.{CarriesOn, setting, scope_of}
 use Rattle.type_rules.proofs.block.+check.Given as goal
 
 abbrev pub decreases-type_of_action : goal.decreases-type_of_action

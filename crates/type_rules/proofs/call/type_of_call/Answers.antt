@@ -6,7 +6,7 @@ use Rattle.priml_syntax.specs.Read.{read_type, read_term}
 use Rattle.type_rules.specs.Shared.{read_shared}
 use Rattle.type_rules.specs.Typing.{subst_type, subst_prio}
 use Rattle.priml_syntax.specs.Read.{read_sig}
-use Rattle.type_rules.specs.Answers.{setting, scope_of}
+use Rattle.type_rules.specs.Inside.Answers.{setting, scope_of}
 use Rattle.type_rules.proofs.Arguments.{sig_at, stop_arity, stop_mismatch, stop_wrong, stop_constraint, call_fits}
 use Rattle.type_rules.proofs.Handed.{failed}
 use Rattle.type_rules.proofs.call.type_of_call.Goals as goal

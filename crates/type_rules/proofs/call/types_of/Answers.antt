@@ -3,7 +3,7 @@ use Rattle.std.proofs.lemmas.List.{map-append}
 use Rattle.priml_syntax.specs.Read.{read_term}
 use Rattle.type_rules.specs.Shared.{read_shared}
 use Rattle.type_rules.specs.Typing.{HaveTypes}
-use Rattle.type_rules.specs.Answers.{scope_of, TermsStop}
+use Rattle.type_rules.specs.Inside.Answers.{scope_of, TermsStop}
 use Rattle.type_rules.proofs.Handed.{handed}
 use Rattle.type_rules.proofs.Arguments.{have_push, stop_after, in_scope_item, more_terms, split_terms}
 use Rattle.type_rules.proofs.call.types_of.Goals as goal

@@ -4,7 +4,7 @@ use Rattle.priml_syntax.specs.Read.{read_type, read_sig, read_proc, read_program
 use Rattle.priml_syntax.specs.Tree.{Routine, pairs_of}
 use Rattle.type_rules.specs.Shared.{read_shared}
 use Rattle.type_rules.specs.Typing.{CodeInScope}
-use Rattle.type_rules.specs.Answers.{setting, scope_of}
+use Rattle.type_rules.specs.Inside.Answers.{setting, scope_of}
 use Rattle.type_rules.proofs.InScope.{routine_in}
 use Rattle.type_rules.proofs.Parts.{signatures, same_setting, routine_answer}
 use Rattle.type_rules.proofs.routine.type_of_routine.Goals as goal

@@ -2,7 +2,7 @@ use Rattle.std.proofs.Common.{subst, sym, Some}
 use Rattle.std.specs.List.{All}
 use Rattle.std.proofs.lemmas.List.Elements.{All-pop, All-push}
 use Rattle.core_steps.specs.Moves.{read_job}
-use Rattle.worked_boards.specs.Seats.{Sits}
+use Rattle.worked_boards.specs.Inside.Seats.{Sits}
 use Rattle.worked_boards.specs.declared.looks.Part.{Part}
 use Rattle.worked_boards.proofs.looks.deal.Goals as goal
 

@@ -2,7 +2,7 @@ use Rattle.std.proofs.Common.{vec_len}
 use Rattle.std.specs.List.{All}
 use Rattle.core_steps.specs.Moves.{read_job}
 use Rattle.join_board.specs.declared.owned.BoardSeat.{BoardSeat}
-use Rattle.worked_boards.specs.Seats.{Sits}
+use Rattle.worked_boards.specs.Inside.Seats.{Sits}
 use Rattle.worked_boards.proofs.looks.deal.Given as goal
 
 abbrev pub invariant-loop-seat : goal.invariant-loop-seat

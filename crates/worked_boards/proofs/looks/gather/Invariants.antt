@@ -1,7 +1,7 @@
 use Rattle.std.specs.List.{All}
 use Rattle.core_steps.specs.Moves.{read_job}
 use Rattle.join_board.specs.declared.owned.BoardSeat.{BoardSeat}
-use Rattle.worked_boards.specs.Seats.{Sits}
+use Rattle.worked_boards.specs.Inside.Seats.{Sits}
 use Rattle.worked_boards.proofs.looks.gather.Given as goal
 
 abbrev pub invariant-loop-seat : goal.invariant-loop-seat

@@ -1,7 +1,7 @@
 use Rattle.std.proofs.Common.{◌≡◌, ◌+◌, length, sym, ap, subst, arith}
 use Rattle.priority_order.specs.Order.{IsWithin}
 use Rattle.constraint_proof.specs.Entailed.{IsValid}
-use Rattle.constraint_proof.specs.Search.{constraints, Followed, Went}
+use Rattle.constraint_proof.specs.Inside.Search.{constraints, Followed, Went}
 use Rattle.constraint_proof.proofs.Steps.{valid_at, follow_keeps, went_more}
 use Rattle.constraint_proof.proofs.search.Search.round.Goals as goal
 

@@ -1,5 +1,5 @@
 use Rattle.std.proofs.Common.{length}
-use Rattle.constraint_proof.specs.Search.{constraints, IsSearch, Went}
+use Rattle.constraint_proof.specs.Inside.Search.{constraints, IsSearch, Went}
 use Rattle.constraint_proof.proofs.search.Search.round.Given as goal
 
 abbrev pub invariant-loop-i : goal.invariant-loop-i

@@ -1,5 +1,5 @@
 use Rattle.std.proofs.Common.{◌≡◌, ◌+◌, cond, false, length}
-use Rattle.constraint_proof.specs.Search.{constraints, free, IsSearch, IsClosedTo}
+use Rattle.constraint_proof.specs.Inside.Search.{constraints, free, IsSearch, IsClosedTo}
 use Rattle.constraint_proof.proofs.search.Search.run.Given as goal
 
 abbrev pub invariant-loop-more : goal.invariant-loop-more

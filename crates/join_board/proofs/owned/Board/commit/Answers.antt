@@ -47,7 +47,7 @@ returns-in-None-clause-answer c = let took = c.in-Some.ensures.found in let v = 
 pub settle-requires-clause-grew : goal.settle-requires-clause-grew
 settle-requires-clause-grew c = let took = c.in-Some.ensures.found.0 in let s = read_segment c.args.segment in let v = c.args.seat.now.seat.me.0 in let k = c.shard_of-shard.result in let x = c.in-Some.value in let i = c.in-Some-find.i in let at = c.in-Some-find.ensures in
     let can = c.requires.segment in let rests = c.args.seat.now.rests in let equal : c.len_at-len.result ≡ s.from = search rules in let n : ℕ = cond c.spawns_last-spawn.result 1 0 in
-    let small = c.if-length-gt-MOST.false in let room = c.if-seat-length.false in let len = c.len-length.ensures in let own = rests.5 in
+    let small = c.if-length-gt-MOST_STEPS.false in let room = c.if-seat-length.false in let len = c.len-length.ensures in let own = rests.5 in
     subst (λ (u : View). (g : Grew_by (ahead_view u n) k c.append.new.self) × (spawns g.segment.events ≡ n) × (ends g.segment.events ≡ cond c.is_some-end.result 1 0)) (ap (λ m. m.0) (sym took))
     (grows v k x c.append.new.self i s c.in-Ok.tasks.items n (cond c.is_some-end.result 1 0) can at c.in-Ok.ensures.ok (λ e there. sym (c.len_at-len.ensures e there) ∙ equal)
     (omega (arith, small, room, len, own)) rests.3 (spawn_is v s can c.spawns_last-spawn.result (c.spawns_last-spawn.ensures ∙ ap spawned_last c.deref.ensures.value)) (end_is v s can c.is_some-end.result c.is_some-end.ensures) (bit_few c.is_some-end.result))

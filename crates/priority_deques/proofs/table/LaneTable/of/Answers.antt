@@ -3,7 +3,7 @@ use Rattle.std.proofs.lemmas.List.{length_push}
 use Rattle.priority_order.specs.Order.{HasLane, most_names}
 use Rattle.type_rules.specs.Jobs.{WithInputs}
 use Rattle.priority_deques.specs.Ends.{lane_count}
-use Rattle.priority_deques.specs.Tables.{IsLaneTable}
+use Rattle.priority_deques.specs.Inside.Tables.{IsLaneTable}
 use Rattle.priority_deques.proofs.Lists.{EachAt, each_push}
 use Rattle.priority_deques.proofs.table.LaneTable.of.Goals as goal
 

@@ -1,7 +1,7 @@
 use Rattle.std.proofs.Common.{◌++◌, length, sym, ap, subst, ◌∙◌, arith}
 use Rattle.std.proofs.lemmas.Bool.{eqb-true, eqb-false}
 use Rattle.source_tokens.specs.Lexes.{Spells}
-use Rattle.source_tokens.specs.Lexer.{tokens_of}
+use Rattle.source_tokens.specs.Inside.Lexer.{tokens_of}
 use Rattle.source_tokens.specs.Runs.{joined}
 use Rattle.source_tokens.specs.Names.{name_bytes, IsTooLarge}
 use Rattle.source_tokens.proofs.Steps.{stops_done, stops_byte, stops_number, stops_deep, goes_on}

@@ -6,7 +6,7 @@ use Rattle.core_steps.specs.Inside.Locals.{read_boxed}
 use Rattle.core_steps.specs.Moves.{read_job}
 use Rattle.core_steps.proofs.EndRows.{leave_row}
 use Rattle.core_steps.proofs.StepRows.{made}
-use Rattle.core_steps.proofs.local.Local.give.Goals as goal
+use Rattle.core_steps.proofs.local.Local.ret_tail.Goals as goal
 
 pub returns-in_ok-leave-in-Value-clause-goes : goal.returns-in_ok-leave-in-Value-clause-goes
 returns-in_ok-leave-in-Value-clause-goes c =

@@ -6,7 +6,7 @@ use Rattle.core_steps.specs.Inside.Locals.{read_boxed}
 use Rattle.core_steps.specs.Moves.{read_job}
 use Rattle.core_steps.proofs.EndRows.{left_row, right_row}
 use Rattle.core_steps.proofs.StepRows.{made}
-use Rattle.core_steps.proofs.local.Local.split.Goals as goal
+use Rattle.core_steps.proofs.local.Local.case_tail.Goals as goal
 
 pub returns-in_ok-branch_with-in-Left-clause-goes : goal.returns-in_ok-branch_with-in-Left-clause-goes
 returns-in_ok-branch_with-in-Left-clause-goes c =

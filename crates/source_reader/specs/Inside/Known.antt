@@ -1,6 +1,6 @@
 -- What the names stand for, as the reader keeps them.
 use Rattle.source_reader.specs.Names.{lookup, Env}
-use Rattle.source_reader.specs.Narrow.{narrow}
+use Rattle.source_reader.specs.Inside.Narrow.{narrow}
 use Rattle.source_reader.specs.declared.names.Names.{Names}
 
 abbrev pub env_in : Names → Env

@@ -4,8 +4,8 @@ use Rattle.std.proofs.Common.{ap}
 use Rattle.source_tokens.specs.declared.token.Kind.{Kind}
 use Rattle.source_tokens.specs.declared.token.Kind.TheVariants as k
 use Rattle.source_tokens.specs.declared.token.Sign.TheVariants as s
-use Rattle.source_grammar.specs.Next.{is_end}
-use Rattle.source_grammar.specs.Machine.{Symbol, rule, and_then, AName, ASign, Expr, Given, Parameter, Ty}
+use Rattle.source_grammar.specs.Inside.Next.{is_end}
+use Rattle.source_grammar.specs.Inside.Machine.{Symbol, rule, and_then, AName, ASign, Expr, Given, Parameter, Ty}
 
 -- the symbol does not begin with what may end a list
 abbrev pub BeginsOtherwise : Symbol → Type 0

@@ -4,7 +4,7 @@ use Rattle.std.specs.Prelude.{◌≡◌, List, ◌∷◌, ◌++◌, Result, Ok, 
 use Rattle.source_tokens.specs.declared.token.Token.{Token}
 use Rattle.source_grammar.specs.declared.cursor.Stop.{Stop}
 use Rattle.source_grammar.specs.declared.cursor.Stop.TheVariants as stop
-use Rattle.source_grammar.specs.Machine.{Symbol, halt}
+use Rattle.source_grammar.specs.Inside.Machine.{Symbol, halt}
 
 -- the symbol `x` is read, or the tokens leave it
 abbrev pub Moves : {A : Type 0} → Symbol → List Token → List Token → Result A Stop → Type 0

@@ -12,7 +12,7 @@ use Rattle.type_rules.specs.declared.TypeStop.TheVariants.{Fault, OutOfMemory}
 use Rattle.type_rules.specs.Typing.{VarTypes, Context, CodeHas, BodyHas, ActHas}
 use Rattle.type_rules.specs.declared.shared.Shared.{Shared}
 use Rattle.type_rules.specs.Shared.{read_shared}
-use Rattle.type_rules.specs.Faults.{TermFaults, TermsFault, CodeFaults, BodyFaults, PartsFault, ActFault}
+use Rattle.type_rules.specs.Inside.Faults.{TermFaults, TermsFault, CodeFaults, BodyFaults, PartsFault, ActFault}
 
 -- what the checker knows while it types a procedure
 abbrev pub setting : Facts → List Proc → Context

@@ -17,7 +17,7 @@ use Rattle.source_grammar.specs.declared.choice.TailForm.{TailForm}
 use Rattle.source_grammar.specs.declared.choice.TailForm.TheVariants as tail
 use Rattle.source_grammar.specs.declared.choice.DeclarationForm.{DeclarationForm}
 use Rattle.source_grammar.specs.declared.choice.DeclarationForm.TheVariants as decl
-use Rattle.source_grammar.specs.Next.{is_name, is_word, is_sign, ty_form, mid_form, prefix_word, side_word, expr_form, joint_form, action_form, tail_form, declaration_form}
+use Rattle.source_grammar.specs.Inside.Next.{is_name, is_word, is_sign, ty_form, mid_form, prefix_word, side_word, expr_form, joint_form, action_form, tail_form, declaration_form}
 
 -- what comes behind a list with commas: `)`, `]`, or what ends the priority variables of a procedure
 pub data End : Type 0 where
@@ -141,13 +141,13 @@ rule_block kind = and_then (Binds ∷ []) (rule_sign s.OpenBrace kind)
 abbrev pub rule_bind : Kind → Option (List Symbol)
 rule_bind kind = and_then (ASign s.Arrow ∷ Action ∷ ASign s.Semicolon ∷ []) (rule_name kind)
 
-abbrev pub rule_give : Kind → Option (List Symbol)
-rule_give kind = and_then (Expr ∷ []) (rule_word w.Ret kind)
+abbrev pub rule_ret : Kind → Option (List Symbol)
+rule_ret kind = and_then (Expr ∷ []) (rule_word w.Ret kind)
 
 abbrev pub rule_tail_form : Kind → TailForm → Option (List Symbol)
-rule_tail_form kind tail.Give = rule_give kind
-rule_tail_form kind tail.Branch = and_then (Expr ∷ Block ∷ AWord w.Else ∷ Block ∷ []) (rule_word w.If kind)
-rule_tail_form kind tail.Split = and_then (Expr ∷ AWord w.Inl ∷ AName ∷ Block ∷ AWord w.Inr ∷ AName ∷ Block ∷ []) (rule_word w.Case kind)
+rule_tail_form kind tail.Ret = rule_ret kind
+rule_tail_form kind tail.If = and_then (Expr ∷ Block ∷ AWord w.Else ∷ Block ∷ []) (rule_word w.If kind)
+rule_tail_form kind tail.Case = and_then (Expr ∷ AWord w.Inl ∷ AName ∷ Block ∷ AWord w.Inr ∷ AName ∷ Block ∷ []) (rule_word w.Case kind)
 
 abbrev pub rule_tail : Kind → Option (List Symbol)
 rule_tail kind = by_form (tail_form kind) (rule_tail_form kind) None
@@ -157,11 +157,11 @@ abbrev pub rule_binds : Kind → Option (List Symbol)
 rule_binds kind = cond (is_name kind) (and_then (Binds ∷ []) (rule_bind kind)) (and_then (ASign s.CloseBrace ∷ []) (rule_tail kind))
 
 abbrev pub rule_action_form : Kind → ActionForm → Option (List Symbol)
-rule_action_form kind action.Returned = rule_give kind
+rule_action_form kind action.Ret = rule_ret kind
 rule_action_form kind action.Spawn = and_then (ASign s.OpenBracket ∷ AName ∷ ASign s.CloseBracket ∷ Block ∷ []) (rule_word w.Spawn kind)
 rule_action_form kind action.Sync = and_then (AName ∷ []) (rule_word w.Sync kind)
 rule_action_form kind action.Call = and_then (AName ∷ CallOpen ∷ Listed Expr parens ∷ []) (rule_word w.Call kind)
-rule_action_form kind action.Run = and_then (Block ∷ []) (rule_word w.Do kind)
+rule_action_form kind action.Do = and_then (Block ∷ []) (rule_word w.Do kind)
 rule_action_form kind action.Input = rule_word w.Input kind
 rule_action_form kind action.Output = and_then (Expr ∷ []) (rule_word w.Output kind)
 

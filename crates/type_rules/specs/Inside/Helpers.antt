@@ -5,6 +5,7 @@ use Rattle.priml_syntax.specs.declared.prio.Prio.{Prio}
 use Rattle.priml_syntax.specs.declared.expr.Op.{Op}
 use Rattle.priml_syntax.specs.Tree.{Type', unit, bool, int, pair, sum, thread}
 use Rattle.priml_syntax.specs.Size.{type_nodes}
+use Rattle.priml_syntax.specs.Limits.{most_nodes}
 use Rattle.priority_order.specs.Order.{Pair}
 use Rattle.constraint_proof.specs.Entailed.{Constraint, Entailed}
 use Rattle.type_rules.specs.Nodes.{IsSum}
@@ -27,7 +28,7 @@ Answer P Q k at result = MatchResult result P (FaultWhere Q k at)
 
 -- the type of a pair, or that it would be too wide
 abbrev pub PairAnswer : Type' → Type' → ℕ → Result Shared TypeStop → Type 0
-PairAnswer A B at result = Answer (λ t. (read_shared t ≡ pair A B) × (type_nodes (pair A B) ≤ 16)) (16 < type_nodes (pair A B)) Wide at result
+PairAnswer A B at result = Answer (λ t. (read_shared t ≡ pair A B) × (type_nodes (pair A B) ≤ most_nodes)) (most_nodes < type_nodes (pair A B)) Wide at result
 
 -- the first part of a pair
 abbrev pub FirstAnswer : Type' → ℕ → Result Shared TypeStop → Type 0
@@ -72,7 +73,8 @@ PartsAnswer A at result = Answer (λ t. A ≡ sum (read_shared t.0) (read_shared
 
 -- the type of a thread, or that it would be too wide
 abbrev pub ThreadAnswer : Prio → Type' → ℕ → Result Shared TypeStop → Type 0
-ThreadAnswer q A at result = Answer (λ t. (read_shared t ≡ thread q A) × (type_nodes (thread q A) ≤ 16)) (16 < type_nodes (thread q A)) Wide at result
+ThreadAnswer q A at result =
+    Answer (λ t. (read_shared t ≡ thread q A) × (type_nodes (thread q A) ≤ most_nodes)) (most_nodes < type_nodes (thread q A)) Wide at result
 
 -- no thread, or one that r may not wait on
 abbrev pub SyncStops : List Pair → List Constraint → Prio → Type' → ℕ → TypeStop → Type 0

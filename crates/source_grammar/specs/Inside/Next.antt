@@ -157,19 +157,19 @@ joint_form (k.Word w.Or) = Some (joint.Operator o.Or)
 joint_form _ = None
 
 abbrev pub action_form : Kind → Option ActionForm
-action_form (k.Word w.Ret) = Some action.Returned
+action_form (k.Word w.Ret) = Some action.Ret
 action_form (k.Word w.Spawn) = Some action.Spawn
 action_form (k.Word w.Sync) = Some action.Sync
 action_form (k.Word w.Call) = Some action.Call
-action_form (k.Word w.Do) = Some action.Run
+action_form (k.Word w.Do) = Some action.Do
 action_form (k.Word w.Input) = Some action.Input
 action_form (k.Word w.Output) = Some action.Output
 action_form _ = None
 
 abbrev pub tail_form : Kind → Option TailForm
-tail_form (k.Word w.Ret) = Some tail.Give
-tail_form (k.Word w.If) = Some tail.Branch
-tail_form (k.Word w.Case) = Some tail.Split
+tail_form (k.Word w.Ret) = Some tail.Ret
+tail_form (k.Word w.If) = Some tail.If
+tail_form (k.Word w.Case) = Some tail.Case
 tail_form _ = None
 
 abbrev pub declaration_form : Kind → Option DeclarationForm

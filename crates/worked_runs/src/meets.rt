@@ -36,9 +36,9 @@ fn work_of_a_meeting<R: Threads + Wait + Sync>(
 #[test]
 fn two_workers_meet(rt: HostRuntime) -> Result<(), Fail> {
     let alloc = rt.alloc();
-    let job = sums().job(alloc)?;
     for is_shared in [true, false] {
-        assert_eq!(rt; work_of_a_meeting(&rt, alloc, &job, is_shared)?, 348);
+        let work = work_of_a_meeting(&rt, alloc, &sums().job(alloc)?, is_shared)?;
+        assert_eq!(rt; work, 348);
     }
     Ok(())
 }

@@ -9,7 +9,7 @@ use std::thread::Threads;
 use steal_runtime::{Free, RunStop, run_job};
 use trace_book::Book;
 use type_rules::Job;
-use worked_jobs::{Worked, are_same, crowd, endless, leaves, worked_jobs};
+use worked_jobs::{are_same, crowd, endless, leaves, worked_jobs};
 
 /// How a run came to its end, beside the serial meaning of its job.
 #[derive(Clone, Copy, PartialEq, Eq)]
@@ -65,10 +65,9 @@ fn run<R: Threads + Wait + Sync>(
 fn is_whole<R: Threads + Wait + Sync>(
     rt: &R,
     alloc: Global,
-    worked: &Worked,
+    job: &Job,
+    limit: u64,
 ) -> Result<bool, Fail> {
-    let job = worked.job(alloc)?;
-    let limit = worked.work;
     for workers in [1, 2, 4, 16] {
         for quantum in [1, 2, 64] {
             for is_shared in [false, true] {
@@ -77,7 +76,7 @@ fn is_whole<R: Threads + Wait + Sync>(
                     quantum,
                     limit,
                 };
-                let ran = run(rt, alloc, &job, is_shared, setup)?;
+                let ran = run(rt, alloc, job, is_shared, setup)?;
                 if !matches!(ran, Ran::Whole(work, _) if work == limit) {
                     return Ok(false);
                 }
@@ -91,7 +90,7 @@ fn is_whole<R: Threads + Wait + Sync>(
 fn whole_runs(rt: HostRuntime) -> Result<(), Fail> {
     let alloc = rt.alloc();
     for worked in worked_jobs() {
-        assert!(rt; is_whole(&rt, alloc, &worked)?);
+        assert!(rt; is_whole(&rt, alloc, &worked.job(alloc)?, worked.work)?);
     }
     Ok(())
 }
@@ -128,19 +127,26 @@ fn limits(rt: HostRuntime) -> Result<(), Fail> {
     Ok(())
 }
 
-#[test]
-fn thousand_threads(rt: HostRuntime) -> Result<(), Fail> {
-    let alloc = rt.alloc();
-    let job = crowd(alloc)?;
+/// Whether the job is run whole in both forms on four workers, with 1,000 threads.
+fn has_thousand_threads<R: Threads + Wait + Sync>(
+    rt: &R,
+    alloc: Global,
+    job: &Job,
+) -> Result<bool, Fail> {
     let setup = Setup {
         workers: 4,
         quantum: 4,
         limit: 1000000,
     };
-    for is_shared in [false, true] {
-        let ran = run(&rt, alloc, &job, is_shared, setup)?;
-        assert!(rt; matches!(ran, Ran::Whole(_, 1000)));
-    }
+    let deques = run(rt, alloc, job, false, setup)?;
+    let queues = run(rt, alloc, job, true, setup)?;
+    Ok(matches!(deques, Ran::Whole(_, 1000)) && matches!(queues, Ran::Whole(_, 1000)))
+}
+
+#[test]
+fn thousand_threads(rt: HostRuntime) -> Result<(), Fail> {
+    let alloc = rt.alloc();
+    assert!(rt; has_thousand_threads(&rt, alloc, &crowd(alloc)?)?);
     Ok(())
 }
 
@@ -158,8 +164,9 @@ fn is_right<R: Threads + Wait + Sync>(rt: &R, alloc: Global, number: u32) -> Res
             worked.work
         },
     };
-    let job = worked.job(alloc)?;
-    match run(rt, alloc, &job, (number >> 29) % 2 == 0, setup)? {
+    let is_shared = (number >> 29) % 2 == 0;
+    let ran = run(rt, alloc, &worked.job(alloc)?, is_shared, setup)?;
+    match ran {
         Ran::Whole(work, _) => Ok(!is_half && work == worked.work),
         Ran::Stopped => Ok(is_half),
         Ran::Otherwise => Ok(false),

@@ -3,6 +3,7 @@ ghost use Rattle.std.specs.Prelude.{◌≡◌, IfOk};
 
 use priml_syntax::{Event, Outcome, Path, Value};
 use std::alloc::{AllocError, Global};
+use std::process::Abort;
 use std::test::Fail;
 use trace_book::{AppendStop, Book, Segment, ThreadLog};
 
@@ -62,23 +63,29 @@ fn book_of(alloc: Global, one: ThreadLog, other: ThreadLog) -> Result<Book, Allo
 fn logs_and_their_book(rt: HostRuntime) -> Result<(), Fail> {
     let alloc = rt.alloc();
     let mut log = ThreadLog::new(alloc, Path::root(alloc)?, 0);
+    expect_appends(&rt, alloc, &mut log)?;
+    let mut child = ThreadLog::new(alloc, log.path().child(alloc, 0)?, 1);
+    let start = append(alloc, &mut child, 0, &[Event::Start]);
+    let end = append(alloc, &mut child, 1, &[Event::End]);
+    assert!(rt; start == ("appended", 0) && end == ("appended", 0));
+    expect_book(&rt, alloc, &book_of(alloc, child, log)?)
+}
+
+/// Appends a start, a spawn, a join and an end to an empty log, and among them steps that do not follow or come behind the end.
+fn expect_appends(rt: &impl Abort, alloc: Global, log: &mut ThreadLog) -> Result<(), Fail>
+    ensures { log.new.path ≡ log.old.path }
+{
     let first = [Event::Start, Event::Spawn];
     let last = [Event::Join(log.path().child(alloc, 0)?), Event::End];
-    assert_eq!(rt; append(alloc, &mut log, 0, &first), ("appended", 0));
-    assert_eq!(rt; append(alloc, &mut log, 0, &first), ("gap", 2));
-    assert_eq!(rt; append(alloc, &mut log, 2, &last), ("appended", 0));
-    assert_eq!(rt; append(alloc, &mut log, 4, &last), ("ended", 0));
-    assert_eq!(rt; append(alloc, &mut log, 3, &last), ("gap", 4));
-    let mut child = ThreadLog::new(alloc, log.path().child(alloc, 0)?, 1);
-    assert_eq!(rt;
-        append(alloc, &mut child, 0, &[Event::Start]),
-        ("appended", 0)
-    );
-    assert_eq!(rt;
-        append(alloc, &mut child, 1, &[Event::End]),
-        ("appended", 0)
-    );
-    let book = book_of(alloc, child, log)?;
+    assert_eq!(rt; append(alloc, log, 0, &first), ("appended", 0));
+    assert_eq!(rt; append(alloc, log, 0, &first), ("gap", 2));
+    assert_eq!(rt; append(alloc, log, 2, &last), ("appended", 0));
+    assert_eq!(rt; append(alloc, log, 4, &last), ("ended", 0));
+    assert_eq!(rt; append(alloc, log, 3, &last), ("gap", 4));
+    Ok(())
+}
+
+fn expect_book(rt: &impl Abort, alloc: Global, book: &Book) -> Result<(), Fail> {
     assert_eq!(rt; book.work(), 6);
     match book.records(alloc)? {
         Some(records) => assert_eq!(rt; records.work(), 6),

@@ -13,14 +13,18 @@ use std::test::Fail;
 
 #[test]
 fn text_of_one_thread(rt: HostRuntime) -> Result<(), Fail> {
-    let names = names_of(rt.alloc())?;
-    let order = Order::build(rt.alloc(), &names, &[])?;
-    let records = Records::of(list_of(rt.alloc())?);
-    let text = run_text(rt.alloc(), &records, &order)?;
+    let text = text_of(rt.alloc())?;
     let want =
         "thread 0 ui 4 value (inl(-9223372036854775808), inr((thread(0), (true, ()))))\nout 12 -3\nwork 4\n";
     assert_eq!(rt; text.as_slice(), want.as_bytes());
     Ok(())
+}
+
+fn text_of(alloc: Global) -> Result<Vec<u8>, Fail> {
+    let names = names_of(alloc)?;
+    let order = Order::build(alloc, &names, &[])?;
+    let records = Records::of(list_of(alloc)?);
+    Ok(run_text(alloc, &records, &order)?)
 }
 
 fn names_of(alloc: Global) -> Result<Vec<String>, AllocError>

@@ -1,10 +1,10 @@
 //! Threads four deep, each the first child of the one before: whether their records are finished, their texts, shape,
 //! work and span, plan, report and schedules.
 use crate::tests::build::{Scene, ended, finished, scene_of};
-use crate::tests::schedules::{expect_faults, expect_plan, expect_report, flaw, verdict_of};
+use crate::tests::schedules::{expect_faults, expect_plan, expect_report, flaw, verdict_on};
 use cost_graph::{Shape, well_formed};
 use priml_syntax::{Event, Path, Record};
-use prompt_checker::{FlawKind, ScheduleFault, Verdict, read_schedule};
+use prompt_checker::{FlawKind, ScheduleFault, Verdict};
 use span_bound::measure;
 use std::alloc::Global;
 use std::test::Fail;
@@ -171,11 +171,15 @@ fn schedules_of_a_chain(rt: HostRuntime) -> Result<(), Fail> {
     ];
     for (cores, line, want) in cases {
         let text = format!(in rt.alloc(); "{six}{line}")?;
-        let schedule = read_schedule(rt.alloc(), text.as_bytes(), &scene.graph)?;
-        assert_eq!(rt; verdict_of(rt.alloc(), &scene, cores, &schedule)?, want);
+        assert_eq!(rt;
+            verdict_on(rt.alloc(), &scene, cores, text.as_bytes())?,
+            want
+        );
     }
-    let whole = read_schedule(rt.alloc(), PLAN.as_bytes(), &scene.graph)?;
-    assert_eq!(rt; verdict_of(rt.alloc(), &scene, 2, &whole)?, Verdict::Prompt);
+    assert_eq!(rt;
+        verdict_on(rt.alloc(), &scene, 2, PLAN.as_bytes())?,
+        Verdict::Prompt
+    );
     Ok(())
 }
 

@@ -5,7 +5,7 @@ ghost use Rattle.prompt_checker.specs.Read.{lists};
 
 use crate::tests::build::{Scene, order_of, scene_over};
 use crate::tests::schedules::{
-    expect_plan, expect_report, flaw, plan_of, rows_of, sizes, verdict_of,
+    Sizes, expect_plan, expect_report, flaw, plan_of, rows_of, sizes, verdict_on,
 };
 use cost_graph::{Graph, Thread, are_finished, topological};
 use priml_syntax::{Path, Records};
@@ -98,23 +98,28 @@ fn planned(alloc: Global, scene: &Scene, cores: u32) -> Result<(usize, Vec<Row>)
 #[test]
 fn edges_of_a_vertex_of_1000_parents(rt: HostRuntime) -> Result<(), Fail> {
     let scene = gathered(rt.alloc(), 999)?;
-    let graph = &scene.graph;
-    if graph.vertex_count() != 1_001 {
-        return Err(Fail::new("not 1,001 vertices"));
-    }
     let all = others(rt.alloc(), 999)?;
-    assert_eq!(rt; all.len(), 1_000);
-    assert_eq!(rt; graph.parents_of(1), all.as_slice());
-    assert_eq!(rt; graph.children_of(0).len(), 1_000);
-    for child in [0, 2, 501, 1_000] {
-        assert!(rt; graph.parents_of(1).contains(&child));
+    assert!(rt; are_gathered(&scene.graph, &all));
+    Ok(())
+}
+
+// Whether the vertex 1 of 1,001 has all but itself as parents, each of them but 0 has the parent 0 and the child 1, and there
+// are no more edges.
+fn are_gathered(graph: &Graph, all: &[u32]) -> bool {
+    if graph.vertex_count() != 1_001 {
+        return false;
     }
     for child in 2..1_001 {
-        assert_eq!(rt; graph.parents_of(child), [0].as_slice());
-        assert_eq!(rt; graph.children_of(child), [1].as_slice());
+        if graph.parents_of(child) != [0].as_slice() || graph.children_of(child) != [1].as_slice() {
+            return false;
+        }
     }
-    assert!(rt; graph.parents_of(0).is_empty() && graph.children_of(1).is_empty());
-    Ok(())
+    all.len() == 1_000
+        && [0, 2, 501, 1_000].iter().all(|child| all.contains(child))
+        && graph.parents_of(1) == all
+        && graph.children_of(0).len() == 1_000
+        && graph.parents_of(0).is_empty()
+        && graph.children_of(1).is_empty()
 }
 
 // On P cores the plan has a step for the root's first vertex, then the children, P in a step, and then a step for its
@@ -131,29 +136,43 @@ fn rows_of_a_vertex_of_1000_parents(rt: HostRuntime) -> Result<(), Fail> {
     ];
     for (cores, steps, late, root_bound, child_bound) in cases {
         let (count, rows) = planned(rt.alloc(), &scene, cores)?;
-        assert_eq!(rt; (count, rows.len()), (steps as usize, 1_000));
-        let (Some(root), Some(first), Some(last)) = (rows.first(), rows.get(1), rows.last()) else {
-            return Err(Fail::new("no rows"));
-        };
-        assert_eq!(rt; sizes(root), (steps, 1_001, 3, root_bound));
-        assert_eq!(rt; sizes(first), (1, 999, 1, child_bound));
-        assert_eq!(rt; sizes(last), (late, 999, 1, child_bound));
+        let wants = [
+            (steps, 1_001, 3, root_bound),
+            (1, 999, 1, child_bound),
+            (late, 999, 1, child_bound),
+        ];
+        assert!(rt;
+            count == steps as usize && are_rows(&rows, wants),
+            "{cores} cores"
+        );
     }
     Ok(())
+}
+
+// Whether the first, the second and the last of 1,000 rows have these sizes.
+fn are_rows(rows: &[Row], wants: [Sizes; 3]) -> bool {
+    match (rows.first(), rows.get(1), rows.last()) {
+        (Some(root), Some(first), Some(last)) => {
+            rows.len() == 1_000 && [sizes(root), sizes(first), sizes(last)] == wants
+        }
+        _ => false,
+    }
 }
 
 // The root alone, with two vertices: it is the only competitor, and the path of both the longest.
 #[test]
 fn a_thread_alone(rt: HostRuntime) -> Result<(), Fail> {
     let scene = gathered(rt.alloc(), 0)?;
-    expect_graph(&rt, rt.alloc(), &scene, "thread 0 p 2\n", &[0, 1])?;
+    expect_alone(&rt, rt.alloc(), &scene)
+}
+
+fn expect_alone(rt: &impl Abort, alloc: Global, scene: &Scene) -> Result<(), Fail> {
+    expect_graph(rt, alloc, scene, "thread 0 p 2\n", &[0, 1])?;
     let lines = "0:0\n0:1\n";
-    expect_plan(&rt, rt.alloc(), &scene, 3, lines)?;
-    let schedule = read_schedule(rt.alloc(), lines.as_bytes(), &scene.graph)?;
-    let verdict = verdict_of(rt.alloc(), &scene, 3, &schedule)?;
-    assert_eq!(rt; verdict, Verdict::Prompt);
+    expect_plan(rt, alloc, scene, 3, lines)?;
+    assert!(rt; verdict_on(alloc, scene, 3, lines.as_bytes())? == Verdict::Prompt);
     let want = "cores 3\nsteps 2\nresponse 0 p time 2 work 2 span 2 bound 2\n";
-    expect_report(&rt, rt.alloc(), &scene, 3, want)
+    expect_report(rt, alloc, scene, 3, want)
 }
 
 // The graph has this text, and its vertices this order.
@@ -217,13 +236,11 @@ fn no_records(rt: HostRuntime) -> Result<(), Fail> {
 fn schedules_of_no_thread(rt: HostRuntime) -> Result<(), Fail> {
     let scene = nothing(rt.alloc())?;
     let cases = [
-        (b"".as_slice(), 0, Verdict::Prompt),
-        (b"\n".as_slice(), 1, flaw(1, FlawKind::EmptyStep)),
+        (b"".as_slice(), Verdict::Prompt),
+        (b"\n".as_slice(), flaw(1, FlawKind::EmptyStep)),
     ];
-    for (text, steps, want) in cases {
-        let schedule = read_schedule(rt.alloc(), text, &scene.graph)?;
-        assert_eq!(rt; schedule.steps.len(), steps);
-        let verdict = verdict_of(rt.alloc(), &scene, 4, &schedule)?;
+    for (text, want) in cases {
+        let verdict = verdict_on(rt.alloc(), &scene, 4, text)?;
         assert_eq!(rt; verdict, want);
     }
     let fault = read_schedule(rt.alloc(), b"0:0\n", &scene.graph).err();

@@ -1,8 +1,8 @@
 //! Records of several roots: which of them are those of a finished job, and their graphs.
 use crate::tests::build::{Scene, ended, finished, scene_of};
-use crate::tests::schedules::{expect_faults, expect_plan, expect_report, verdict_of};
+use crate::tests::schedules::{expect_faults, expect_plan, expect_report, verdict_on};
 use priml_syntax::{Event, Path, Record};
-use prompt_checker::{ScheduleFault, Verdict, read_schedule};
+use prompt_checker::{ScheduleFault, Verdict};
 use std::alloc::Global;
 use std::test::Fail;
 
@@ -144,8 +144,7 @@ fn report_of_two_roots(rt: HostRuntime) -> Result<(), Fail> {
 fn schedules_of_two_roots(rt: HostRuntime) -> Result<(), Fail> {
     let rows = [(0, None, 0, SHORT), (1, None, 1, SHORT)];
     let scene = scene(rt.alloc(), &rows)?;
-    let schedule = read_schedule(rt.alloc(), b"1:0 0:0\n0:1 1:1\n", &scene.graph)?;
-    let verdict = verdict_of(rt.alloc(), &scene, 2, &schedule)?;
+    let verdict = verdict_on(rt.alloc(), &scene, 2, b"1:0 0:0\n0:1 1:1\n")?;
     assert_eq!(rt; verdict, Verdict::Prompt);
     let cases = [
         ("1:2\n", ScheduleFault::UnknownVertex(1)),

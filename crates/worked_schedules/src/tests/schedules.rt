@@ -85,19 +85,18 @@ fn numbered_rows(
     Ok(list)
 }
 
-// The verdict on a schedule, on at least one core.
-pub(crate) fn verdict_of(
+// The verdict on the schedule of this text, on at least one core.
+pub(crate) fn verdict_on(
     alloc: Global,
     scene: &Scene,
     cores: u32,
-    schedule: &Schedule,
-) -> Result<Verdict, Fail>
-    requires { All (λ step. All (λ v. v < vertex_total scene.now.graph) step) (steps_of schedule.now) }
-{
+    text: &[u8],
+) -> Result<Verdict, Fail> {
     if cores < 1 {
         return Err(Fail::new("no core"));
     }
-    Ok(judge(alloc, &scene.graph, &scene.order, cores, schedule)?)
+    let schedule = read_schedule(alloc, text, &scene.graph)?;
+    Ok(judge(alloc, &scene.graph, &scene.order, cores, &schedule)?)
 }
 
 // The report of the plan, on 1 to 1,024 cores.
@@ -112,8 +111,10 @@ fn plan_report(alloc: Global, scene: &Scene, cores: u32) -> Result<Vec<u8>, Fail
     report(alloc, scene, cores, &plan)
 }
 
-// The response, work, span and bound of a row.
-pub(crate) fn sizes(row: &Line) -> (u64, u64, u64, u64) {
+/// The response, work, span and bound of a row.
+pub(crate) type Sizes = (u64, u64, u64, u64);
+
+pub(crate) fn sizes(row: &Line) -> Sizes {
     (row.response, row.work, row.span, row.bound)
 }
 

@@ -3,7 +3,7 @@ ghost use Rattle.std.specs.Prelude.{IsTrue};
 ghost use Rattle.cost_graph.specs.Graph.{IsWellFormed};
 
 use crate::tests::build::{Scene, ended, path_of, scene_of};
-use crate::tests::schedules::sizes;
+use crate::tests::schedules::{Sizes, sizes};
 use priml_syntax::{Event, Record};
 use prompt_planner::plan;
 use response_report::{Row, rows};
@@ -84,15 +84,14 @@ fn reports_of_large_graphs(rt: HostRuntime) -> Result<(), Fail> {
     ];
     for (shape, children, events, threads, vertices, span) in cases {
         let scene = large(rt.alloc(), shape, children, events)?;
-        let (count, root) = count_and_root(rt.alloc(), &scene)?;
-        assert_eq!(rt; count, threads);
-        assert_eq!(rt; root, (vertices, vertices, span, vertices));
+        let found = count_and_root(rt.alloc(), &scene)?;
+        assert_eq!(rt; found, (threads, (vertices, vertices, span, vertices)));
     }
     Ok(())
 }
 
 // How many rows there are, and the numbers of the first.
-fn count_and_root(alloc: Global, scene: &Scene) -> Result<(usize, (u64, u64, u64, u64)), Fail> {
+fn count_and_root(alloc: Global, scene: &Scene) -> Result<(usize, Sizes), Fail> {
     let rows = rows_of(alloc, scene)?;
     match rows.first() {
         Some(root) => Ok((rows.len(), sizes(root))),
@@ -124,10 +123,15 @@ fn joins(alloc: Global, count: u32) -> Result<Vec<Event>, Fail> {
 fn joined_often(rt: HostRuntime) -> Result<(), Fail> {
     let scene = often_joined(rt.alloc())?;
     let rows = rows_of(rt.alloc(), &scene)?;
-    let wants = [(1_005, 1_005, 1_005, 1_005), (2, 2, 2, 2)];
-    assert_eq!(rt; rows.len(), wants.len());
-    for (row, want) in rows.iter().zip(wants) {
-        assert_eq!(rt; sizes(row), want);
-    }
+    assert!(rt; have_sizes(&rows, &[(1_005, 1_005, 1_005, 1_005), (2, 2, 2, 2)]));
     Ok(())
+}
+
+// Whether the rows have these sizes.
+fn have_sizes(rows: &[Row], wants: &[Sizes]) -> bool {
+    rows.len() == wants.len()
+        && rows
+            .iter()
+            .zip(wants)
+            .all(|(row, want)| sizes(row) == *want)
 }
